@@ -1,0 +1,2 @@
+-- What the crate's own functions answer: cited by private contracts and by laws.
+-- Assumes nothing.

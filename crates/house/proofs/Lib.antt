@@ -1,0 +1,9 @@
+pub mod Small
+pub mod Facts
+pub mod Members
+pub mod Suffix
+pub mod OrderAlgebra
+pub mod OrderLaws
+pub mod PadLaws
+pub mod DateLaws
+pub mod KeyLaws

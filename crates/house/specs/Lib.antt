@@ -1,0 +1,4 @@
+pub mod Text
+pub mod Members
+pub mod Dates
+pub mod Key
