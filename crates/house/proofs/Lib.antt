@@ -4,6 +4,7 @@ pub mod Members
 pub mod Suffix
 pub mod OrderAlgebra
 pub mod OrderLaws
+pub mod SearchLaws
 pub mod PadLaws
 pub mod DateLaws
 pub mod KeyLaws

@@ -1,4 +1,5 @@
 pub mod Text
 pub mod Members
+pub mod Search
 pub mod Dates
 pub mod Key
