@@ -1,0 +1,58 @@
+-- What a file is judged by, and what the rules see from a line.
+-- Assumes nothing.
+use Prim.Native.Nat.{ℕ, suc}
+use mathlib.Core.Bool.{Bool}
+use mathlib.Core.List.{List}
+use Rattle.house.specs.Text.{front, count}
+use Rattle.lines.specs.Records.{Rec, IP, IE, isKind}
+use Rattle.book.specs.Book.{Entry}
+use Rattle.ledger.specs.Ledger.{Event, isAmong}
+use Rattle.rules.specs.Places.{Place, nearest, headOf, isNumbered}
+use Rattle.rules.specs.Blocks.{isInBlock, eventOf, openAfter, blockIn, joinsOpen, firstOpen, isRepeated}
+
+-- today, the entries of the book in use, and the events live in the ledger as lent
+pub record Setting : Type 0 where
+  pub today : ℕ
+  pub book : List Entry
+  pub live : List Event
+
+pub record Seen : Type 0 where
+  -- "its place among IP, II, IE, IN and IA lines, from 1"
+  pub place : ℕ
+  pub line : Rec
+  -- its IP
+  pub ip : Rec
+  -- its II or IN
+  pub head : Rec
+  -- the IE lines just before it: of an IE, the earlier ones of its II
+  pub antigens : List Rec
+  pub in-block : Bool
+  -- the earlier II lines of its block
+  pub block : List Rec
+  -- there are such
+  pub joined : Bool
+  -- the IE lines of the II
+  pub own : List Rec
+  -- those of its block's first II, where it is not the first
+  pub first : List Rec
+  -- an earlier block names its event
+  pub repeated : Bool
+  -- its event is live in the ledger as lent
+  pub live : Bool
+
+unfoldable pub seenAt : Setting → Place → Seen
+seenAt s h =
+    record {
+      place = suc (count isNumbered (h .before));
+      line = h .line;
+      ip = nearest IP (h .before);
+      head = headOf (h .line) (h .before);
+      antigens = front (isKind IE) (h .before);
+      in-block = isInBlock (h .line);
+      block = blockIn (h .line) (openAfter (h .before));
+      joined = joinsOpen (h .line) (h .before);
+      own = front (isKind IE) (h .after);
+      first = firstOpen (h .before);
+      repeated = isRepeated (h .line) (h .before);
+      live = isAmong (s .live) (eventOf (h .line));
+    }
