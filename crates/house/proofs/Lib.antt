@@ -4,7 +4,9 @@ pub mod Members
 pub mod Suffix
 pub mod OrderAlgebra
 pub mod OrderLaws
+pub mod Decisions
 pub mod SearchLaws
 pub mod PadLaws
 pub mod DateLaws
 pub mod KeyLaws
+pub mod Padding
