@@ -82,3 +82,46 @@ pub any-in : {A : Type 0} (p : A → Bool) (x : A) (xs : List A) → In x xs →
 any-in p x [] m t = absurd m
 any-in {A} p x (z ∷ xs) (inl e) t = left-of (p z) (any p xs) (subst (λ (w : A). T (p w)) e t)
 any-in p x (z ∷ xs) (inr m) t = right-of (p z) (any p xs) (any-in p x xs m t)
+
+-- Of those that pass a test, no two give the same
+
+module _ {A B : Type 0} (f : A → B) (p : A → Bool) where
+  -- so it is for a test that passes fewer
+  pub distinct-fewer : (q : A → Bool) → ((x : A) → T (q x) → T (p x)) → (xs : List A) → Distinct (map f (those p xs)) → Distinct (map f (those q xs))
+  distinct-fewer q sub [] d = tt
+  distinct-fewer q sub (x ∷ xs) d = go (λ (k : Distinct (map f (those p xs))). distinct-fewer q sub xs k) (p x) (q x) refl refl d
+    where
+      go : (Distinct (map f (those p xs)) → Distinct (map f (those q xs))) → (b c : Bool) → p x ≡ b → q x ≡ c
+          → Distinct (map f (cond b (x ∷ those p xs) (those p xs)))
+          → Distinct (map f (cond c (x ∷ those q xs) (those q xs)))
+      go rec true true e g k = (
+        (λ m.
+            let r = in-map f (f x) (those q xs) m in
+            let t = in-those q (r .0) xs (r .1) in
+            k .0 (subst (λ (y : B). In y (map f (those p xs))) (sym (r .2)) (map-in f (r .0) (those p xs) (those-in p (r .0) xs (t .0) (sub (r .0) (t .1)))))),
+        rec (k .1),
+      )
+      go rec true false e g k = rec (k .1)
+      go rec false true e g k = absurd (subst T e (sub x (of-true (q x) g)))
+      go rec false false e g k = rec k
+
+  -- two that give the same are one
+  pub same-one : (x y : A) (xs : List A) → Distinct (map f (those p xs)) → In x xs → In y xs → T (p x) → T (p y) → f x ≡ f y → x ≡ y
+  same-one x y [] d m k t u e = absurd m
+  same-one x y (z ∷ xs) d m k t u e =
+      go (λ (i : In x xs) (j : In y xs) (g : Distinct (map f (those p xs))). same-one x y xs g i j t u e) (p z) refl d m k
+    where
+      go : (In x xs → In y xs → Distinct (map f (those p xs)) → x ≡ y) → (b : Bool) → p z ≡ b
+          → Distinct (map f (cond b (z ∷ those p xs) (those p xs)))
+          → In x (z ∷ xs)
+          → In y (z ∷ xs)
+          → x ≡ y
+      go rec true q g (inl i) (inl j) = i ∙ sym j
+      go rec true q g (inl i) (inr j) =
+          absurd (g .0 (subst (λ (w : B). In w (map f (those p xs))) (sym e ∙ ap f i) (map-in f y (those p xs) (those-in p y xs j u))))
+      go rec true q g (inr i) (inl j) =
+          absurd (g .0 (subst (λ (w : B). In w (map f (those p xs))) (e ∙ ap f j) (map-in f x (those p xs) (those-in p x xs i t))))
+      go rec true q g (inr i) (inr j) = rec i j (g .1)
+      go rec false q g (inl i) k′ = absurd (subst T (ap p i ∙ q) t)
+      go rec false q g (inr i) (inl j) = absurd (subst T (ap p j ∙ q) u)
+      go rec false q g (inr i) (inr j) = rec i j g
