@@ -6,7 +6,7 @@ use mathlib.Core.Logic.{_⊎_, inl, inr, ⊎-elim}
 use mathlib.Core.List.{List, [], _∷_, _++_, map}
 use lib.Dec.{T}
 use Rattle.house.specs.Text.{any, all, those, joined}
-use Rattle.house.specs.Members.{In, Distinct}
+use Rattle.house.specs.Members.{In, Distinct, Rising}
 use Rattle.house.proofs.Facts.{both, left-of, right-of, of-true}
 
 module _ {A : Type 0} where
@@ -125,3 +125,46 @@ module _ {A B : Type 0} (f : A → B) (p : A → Bool) where
       go rec false q g (inl i) k′ = absurd (subst T (ap p i ∙ q) t)
       go rec false q g (inr i) (inl j) = absurd (subst T (ap p j ∙ q) u)
       go rec false q g (inr i) (inr j) = rec i j g
+
+-- Lists that rise
+
+module _ {A : Type 0} (r : A → A → Type 0) where
+  pub rising-append : (xs ys : List A) → Rising r xs → Rising r ys → ((x y : A) → In x xs → In y ys → r x y) → Rising r (xs ++ ys)
+  rising-append [] ys a b l = b
+  rising-append (x ∷ xs) ys a b l =
+      ((λ y m. ⊎-elim (a .0 y) (l x y (inl refl)) (in-cases y xs ys m)), rising-append xs ys (a .1) b (λ z y m k. l z y (inr m) k))
+
+  pub rising-those : (p : A → Bool) (xs : List A) → Rising r xs → Rising r (those p xs)
+  rising-those p [] u = tt
+  rising-those p (x ∷ xs) u = go (p x) (rising-those p xs (u .1))
+    where
+      go : (b : Bool) → Rising r (those p xs) → Rising r (cond b (x ∷ those p xs) (those p xs))
+      go true k = ((λ y m. u .0 y (in-those p y xs m .0)), k)
+      go false k = k
+
+  module _ (never : (x y : A) → r x y → r y x → ⊥) where
+    pub rising-distinct : (xs : List A) → Rising r xs → Distinct xs
+    rising-distinct [] u = tt
+    rising-distinct (x ∷ xs) u = ((λ m. never x x (u .0 x m) (u .0 x m)), rising-distinct xs (u .1))
+
+    -- a member of the rest is none of the first again
+    past : (x y : A) (xs ys : List A) → ((z : A) → In z xs → r x z) → y ≡ x → ((z : A) → In z xs → In z (y ∷ ys)) → (z : A) → In z xs → In z ys
+    past x y xs ys a e f z m =
+        ⊎-elim (λ q. let b = subst (λ (w : A). r x w) (q ∙ e) (a z m) in absurd (never x x b b)) (λ k. k) (f z m)
+
+    -- two lists that rise and have the same members are one
+    pub one-rising : (xs ys : List A) → Rising r xs → Rising r ys → ((z : A) → In z xs → In z ys) → ((z : A) → In z ys → In z xs) → xs ≡ ys
+    one-rising [] [] a b f g = refl
+    one-rising [] (y ∷ ys) a b f g = absurd (g y (inl refl))
+    one-rising (x ∷ xs) [] a b f g = absurd (f x (inl refl))
+    one-rising (x ∷ xs) (y ∷ ys) a b f g =
+        go (λ (e : x ≡ y). one-rising xs ys (a .1) (b .1) (past x y xs ys (a .0) (sym e) (λ z m. f z (inr m))) (past y x ys xs (b .0) e (λ z m. g z (inr m))))
+        (f x (inl refl)) (g y (inl refl))
+      where
+        tails : (x ≡ y → xs ≡ ys) → x ≡ y → x ∷ xs ≡ y ∷ ys
+        tails rest e = let k : xs ≡ ys = rest e in cc
+
+        go : (x ≡ y → xs ≡ ys) → (x ≡ y) ⊎ In x ys → (y ≡ x) ⊎ In y xs → x ∷ xs ≡ y ∷ ys
+        go rest (inl e) k = tails rest e
+        go rest (inr m) (inl e) = tails rest (sym e)
+        go rest (inr m) (inr k) = absurd (never x y (a .0 y k) (b .0 x m))

@@ -9,10 +9,10 @@ use mathlib.Core.List.{List, [], _∷_}
 use lib.ListN.{length}
 use lib.Dec.{T, T-not, not-T}
 use Rattle.house.specs.Text.{Text, same, below, any, those, count}
-use Rattle.house.specs.Members.{In, Distinct}
+use Rattle.house.specs.Members.{In, Distinct, Rising}
 use Rattle.house.proofs.Facts.{both, either, left-of, right-of, of-true}
-use Rattle.house.proofs.Members.{in-those, those-in, distinct-those}
-use Rattle.house.proofs.Decisions.{same-is, is-same-T, below-irrefl, below-trans, below-else}
+use Rattle.house.proofs.Members.{in-those, those-in, distinct-those, rising-those, rising-distinct}
+use Rattle.house.proofs.Decisions.{same-is, is-same-T, below-asym, below-trans, below-else}
 use Rattle.ledger.specs.Ledger.{Event, isAmong, insert, plus, less, eventsAfter}
 
 -- Members
@@ -191,21 +191,14 @@ count-every (x ∷ es) = ap suc (count-every es)
 -- In order
 
 -- each event stands below all that follow it
+abbrev pub Below : Event → Event → Type 0
+Below d e = T (below d e)
+
 abbrev pub Up : List Event → Type 0
-Up [] = Unit {0}
-Up (x ∷ xs) = ((y : Event) → In y xs → T (below x y)) × Up xs
+Up es = Rising Below es
 
 pub up-distinct : (es : List Event) → Up es → Distinct es
-up-distinct [] u = tt
-up-distinct (x ∷ es) u = ((λ m. below-irrefl x (u .0 x m)), up-distinct es (u .1))
-
-up-those : (p : Event → Bool) (es : List Event) → Up es → Up (those p es)
-up-those p [] u = tt
-up-those p (x ∷ es) u = go (p x) (up-those p es (u .1))
-  where
-    go : (b : Bool) → Up (those p es) → Up (cond b (x ∷ those p es) (those p es))
-    go true r = ((λ y m. u .0 y (in-those p y es m .0)), r)
-    go false r = r
+up-distinct es u = rising-distinct Below below-asym es u
 
 up-insert : (a : Event) (es : List Event) → (In a es → ⊥) → Up es → Up (insert a es)
 unfolding insert
@@ -228,4 +221,4 @@ up-plus (a ∷ xs) es d ne u =
 pub up-after : (live added deleted : List Event) → Up live → Distinct added → ((e : Event) → In e added → In e live → ⊥) → Up (eventsAfter live added deleted)
 unfolding eventsAfter less
 up-after live added deleted u d new =
-    up-plus added (less deleted live) d (λ e m k. new e m (in-less deleted live e k .0)) (up-those (λ (x : Event). not (isAmong deleted x)) live u)
+    up-plus added (less deleted live) d (λ e m k. new e m (in-less deleted live e k .0)) (rising-those Below (λ (x : Event). not (isAmong deleted x)) live u)

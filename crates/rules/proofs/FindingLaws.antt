@@ -1,7 +1,6 @@
 -- The list of findings holds exactly the broken rules, in strictly ascending order, and no other list does.
 -- Assumes nothing.
 use Prim.Native.Nat.{ℕ, zero, suc, _+_, _<_, _≤_}
-use native.Mathlib.Numerals.{add-one}
 use native.Mathlib.Omega.{arith}
 use mathlib.Core.Path.{_≡_, refl, sym, ap, _∙_, subst}
 use mathlib.Core.Bool.{Bool, true, false, cond, _&&_, _||_}
@@ -10,9 +9,9 @@ use mathlib.Core.List.{List, [], _∷_, _++_}
 use lib.ListN.{length}
 use lib.Dec.{T, eqb, ltb, eqb→eq, eqb-refl, ltb→lt}
 use Rattle.house.specs.Text.{Text, any, joined}
-use Rattle.house.specs.Members.{In}
+use Rattle.house.specs.Members.{In, Rising}
 use Rattle.house.proofs.Facts.{both, both-of, either, left-of, right-of, of-true}
-use Rattle.house.proofs.Members.{in-cases, in-left, in-right, in-joined, joined-in}
+use Rattle.house.proofs.Members.{in-cases, in-left, in-right, in-joined, joined-in, rising-append, one-rising}
 use Rattle.house.proofs.Small.{Three, lt, eq, gt, three}
 use Rattle.lines.specs.Records.{Rec, recs}
 use Rattle.rules.specs.Places.{Place, placesFrom, placesOf, placesIn}
@@ -27,11 +26,6 @@ use Rattle.rules.specs.Claims.{Broken, Before, Ascending, Lists, Finding
 abbrev rises : ℕ → List Numbered → Bool
 rises n [] = true
 rises n (x ∷ xs) = ltb n (x .number) && rises (x .number) xs
-
--- each number stands before all that follow it
-abbrev Up : List ℕ → Type 0
-Up [] = Unit {0}
-Up (x ∷ xs) = ((y : ℕ) → In y xs → x < y) × Up xs
 
 module _ (s : Setting) (v : Seen) (f : ℕ) where
   abbrev isRule : ℕ → Numbered → Bool
@@ -75,18 +69,18 @@ module _ (s : Setting) (v : Seen) (f : ℕ) where
       here h true (inr k) = absurd k
       here h false k = absurd k
 
-  broken-up : (n : ℕ) (xs : List Numbered) → T (rises n xs) → Up (brokenBy s v f xs)
+  broken-up : (n : ℕ) (xs : List Numbered) → T (rises n xs) → Rising _<_ (brokenBy s v f xs)
   broken-up n [] t = tt
   broken-up n (x ∷ xs) t =
       let p = both (ltb n (x .number)) (rises (x .number) xs) t in
       go (p .1) (broken-up (x .number) xs (p .1)) (x .broken s v f)
     where
-      go : T (rises (x .number) xs) → Up (brokenBy s v f xs) → (b : Bool) → Up (cond b (x .number ∷ []) [] ++ brokenBy s v f xs)
+      go : T (rises (x .number) xs) → Rising _<_ (brokenBy s v f xs) → (b : Bool) → Rising _<_ (cond b (x .number ∷ []) [] ++ brokenBy s v f xs)
       go h u true = ((λ y m. broken-above (x .number) y xs h m), u)
       go h u false = u
 
   -- the eighteen rise
-  pub at-up : Up (brokenAt s v f)
+  pub at-up : Rising _<_ (brokenAt s v f)
   unfolding brokenAt rulesOf rules
   at-up = broken-up 0 rules tt
 
@@ -115,12 +109,7 @@ found-in n f r [] m = absurd m
 found-in n f r (q ∷ rs) (inl e) = inl (ap (finding n f) e)
 found-in n f r (q ∷ rs) (inr m) = inr (found-in n f r rs m)
 
-ascending-append : (xs ys : List Finding) → Ascending xs → Ascending ys → ((x y : Finding) → In x xs → In y ys → Before x y) → Ascending (xs ++ ys)
-ascending-append [] ys a b l = b
-ascending-append (x ∷ xs) ys a b l =
-    ((λ y m. ⊎-elim (a .0 y) (l x y (inl refl)) (in-cases y xs ys m)), ascending-append xs ys (a .1) b (λ z y m k. l z y (inr m) k))
-
-found-ascends : (n f : ℕ) (rs : List ℕ) → Up rs → Ascending (found n f rs)
+found-ascends : (n f : ℕ) (rs : List ℕ) → Rising _<_ rs → Ascending (found n f rs)
 unfolding found
 found-ascends n f [] u = tt
 found-ascends n f (r ∷ rs) u = (
@@ -173,7 +162,7 @@ module _ (s : Setting) (n : ℕ) (v : Seen) where
   unfolding fieldsFindings
   fields-ascend f zero = tt
   fields-ascend f (suc m) =
-      ascending-append (found n f (brokenAt s v f)) (fieldsFindings s n v (f + 1) m) (found-ascends n f (brokenAt s v f) (at-up s v f)) (fields-ascend (f + 1) m)
+      rising-append Before (found n f (brokenAt s v f)) (fieldsFindings s n v (f + 1) m) (found-ascends n f (brokenAt s v f) (at-up s v f)) (fields-ascend (f + 1) m)
       (λ x y i k.
       let p = in-found n f (brokenAt s v f) x i in
       let a = at-fields (f + 1) m y k in
@@ -201,7 +190,7 @@ module _ (s : Setting) where
   lines-ascend n before [] = tt
   lines-ascend n before (l ∷ ls) =
       let h : Place = record { number = n; before = before; line = l; after = ls } in
-      ascending-append (lineFindings s h) (joined (lineFindings s) (placesFrom (suc n) (l ∷ before) ls))
+      rising-append Before (lineFindings s h) (joined (lineFindings s) (placesFrom (suc n) (l ∷ before) ls))
       (fields-ascend s n (seenAt s h) 1 (length (l .fields)))
       (lines-ascend (suc n) (l ∷ before) ls)
       (λ x y m k.
@@ -244,27 +233,5 @@ not-both x y (inr (e, p)) (inr (g, q)) = go p q
     go (inr i) (inl j) = omega (arith, i .0)
     go (inr i) (inr j) = omega (arith, i .1, j .1)
 
--- a member of the rest is none of the first again
-past : (x y : Finding) (xs ys : List Finding) → ((z : Finding) → In z xs → Before x z) → y ≡ x → ((z : Finding) → In z xs → In z (y ∷ ys)) → (z : Finding) → In z xs → In z ys
-past x y xs ys a e f z m =
-    ⊎-elim (λ q. let b = subst (λ (w : Finding). Before x w) (q ∙ e) (a z m) in absurd (not-both x x b b)) (λ k. k) (f z m)
-
--- two lists that ascend and have the same members are the same
-pub one-ascending : (xs ys : List Finding) → Ascending xs → Ascending ys → ((z : Finding) → In z xs → In z ys) → ((z : Finding) → In z ys → In z xs) → xs ≡ ys
-one-ascending [] [] a b f g = refl
-one-ascending [] (y ∷ ys) a b f g = absurd (g y (inl refl))
-one-ascending (x ∷ xs) [] a b f g = absurd (f x (inl refl))
-one-ascending (x ∷ xs) (y ∷ ys) a b f g =
-    go (λ (e : x ≡ y). one-ascending xs ys (a .1) (b .1) (past x y xs ys (a .0) (sym e) (λ z m. f z (inr m))) (past y x ys xs (b .0) e (λ z m. g z (inr m))))
-    (f x (inl refl)) (g y (inl refl))
-  where
-    tails : (x ≡ y → xs ≡ ys) → x ≡ y → x ∷ xs ≡ y ∷ ys
-    tails rest e = let r : xs ≡ ys = rest e in cc
-
-    go : (x ≡ y → xs ≡ ys) → (x ≡ y) ⊎ In x ys → (y ≡ x) ⊎ In y xs → x ∷ xs ≡ y ∷ ys
-    go rest (inl e) k = tails rest e
-    go rest (inr m) (inl e) = tails rest (sym e)
-    go rest (inr m) (inr k) = absurd (not-both x y (a .0 y k) (b .0 x m))
-
 pub one-list : OneList
-one-list s file xs ys p q = one-ascending xs ys (p .in-order) (q .in-order) (λ z m. q .every z (p .only z m)) (λ z m. p .every z (q .only z m))
+one-list s file xs ys p q = one-rising Before not-both xs ys (p .in-order) (q .in-order) (λ z m. q .every z (p .only z m)) (λ z m. p .every z (q .only z m))

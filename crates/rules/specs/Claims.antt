@@ -8,7 +8,7 @@ use mathlib.Core.List.{List, [], _∷_}
 use lib.ListN.{length, getD}
 use lib.Dec.{T}
 use Rattle.house.specs.Text.{Text}
-use Rattle.house.specs.Members.{In, Distinct}
+use Rattle.house.specs.Members.{In, Distinct, Rising}
 use Rattle.ledger.specs.Ledger.{Event, eventForm}
 use Rattle.rules.specs.Places.{Place, placesIn}
 use Rattle.rules.specs.Blocks.{joinsOpen, beginsBlock, eventsOf, adds, changes, deletes}
@@ -33,8 +33,7 @@ Before x y = (x .line < y .line) ⊎ ((x .line ≡ y .line) × ((x .field < y .f
 
 -- each stands before all that follow it: so none stands twice
 abbrev pub Ascending : List Finding → Type 0
-Ascending [] = Unit {0}
-Ascending (x ∷ xs) = ((y : Finding) → In y xs → Before x y) × Ascending xs
+Ascending xs = Rising Before xs
 
 -- "every broken rule with line and field, none missing, none twice, in file order"
 pub record Lists (s : Setting) (file : Text) (xs : List Finding) : Type 0 where
