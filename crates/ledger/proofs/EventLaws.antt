@@ -180,6 +180,11 @@ module _ (p : Event → Bool) where
   unfolding eventsAfter
   count-after live added deleted dl dd sub = omega (arith, count-plus added (less deleted live), count-less deleted live dd dl sub)
 
+-- nothing added and nothing deleted is nothing altered
+pub after-none : (live : List Event) → eventsAfter live [] [] ≡ live
+unfolding eventsAfter plus
+after-none live = less-none live
+
 -- all of them
 abbrev pub every : Event → Bool
 every e = true
