@@ -1,15 +1,16 @@
 -- The findings area, byte by byte.
 -- Assumes nothing.
-use Prim.Native.Nat.{ℕ, zero, suc, _+_, _-_, _*_, _/_, _≤_, _<_, min}
-use native.Mathlib.Nat.{div-mul-le-self, div-lt-iff-lt-mul}
+use Prim.Native.Nat.{ℕ, zero, suc, _+_, _-_, _*_, _/_, _%_, _≤_, _<_, min}
+use native.Mathlib.Nat.{div-mul-le-self, div-add-mod'}
 use native.Mathlib.Omega.{arith}
 use mathlib.Core.Path.{_≡_, refl, sym, ap, _∙_}
 use mathlib.Core.List.{List, [], _∷_, _++_}
 use lib.ListN.{length, getD, take, drop, length-append, length-take, length-drop, List·getD-append}
-use lib.Seq.{getD-append-add, getD-take, getD-drop}
+use lib.Seq.{getD-append-add, getD-take, getD-drop, ext-getD}
 use Rattle.house.specs.Text.{Text, joined}
+use Rattle.house.proofs.Small.{Three, lt, eq, gt, three}
 use Rattle.rules.specs.Findings.{Finding, findingBytes, areaAfter}
-use Rattle.rules.specs.Claims.{noFinding, AreaHolds, AreaKept}
+use Rattle.rules.specs.Claims.{noFinding, AreaHolds, AreaKept, OneArea}
 
 kept-length : (xs : List Finding) → length (joined findingBytes xs) ≡ length xs * 6
 unfolding findingBytes
@@ -72,3 +73,36 @@ area-kept area xs =
   where
     room : (i : ℕ) → i * 6 + 6 ≤ length area → i < length area / 6
     room i r = omega arith
+
+-- Every byte of the area is said.
+pub one-area : OneArea
+one-area area xs a b p q = ext-getD 0 a b (p .same-length ∙ sym (q .same-length)) (λ k h. byte k (three (k / 6) (length xs)) (three (k / 6) (length area / 6)))
+  where
+    split : (k : ℕ) → k ≡ k / 6 * 6 + k % 6
+    split k = sym (div-add-mod' k 6)
+
+    low : (k : ℕ) → k / 6 < length xs → k / 6 < length area / 6 → getD a k 0 ≡ getD b k 0
+    low k h g =
+        let r : k / 6 * 6 + 6 ≤ length area = omega (arith, div-mul-le-self (length area) 6) in
+        let j : k % 6 < 6 = omega arith in
+        ap (λ (n : ℕ). getD a n 0) (split k)
+        ∙ p .kept (k / 6) (k % 6) h r j
+        ∙ sym (q .kept (k / 6) (k % 6) h r j)
+        ∙ ap (λ (n : ℕ). getD b n 0) (sym (split k))
+
+    list-end : (k : ℕ) → length xs ≤ k / 6 → getD a k 0 ≡ getD b k 0
+    list-end k h =
+        let g : length xs * 6 ≤ k = omega (arith, div-mul-le-self k 6) in
+        p .past-list k g ∙ sym (q .past-list k g)
+
+    room-end : (k : ℕ) → length area / 6 ≤ k / 6 → getD a k 0 ≡ getD b k 0
+    room-end k h =
+        let g : length area / 6 * 6 ≤ k = omega (arith, div-mul-le-self k 6) in
+        p .past-room k g ∙ sym (q .past-room k g)
+
+    byte : (k : ℕ) → Three (k / 6) (length xs) → Three (k / 6) (length area / 6) → getD a k 0 ≡ getD b k 0
+    byte k (lt h) (lt g) = low k h g
+    byte k (lt h) (eq g) = room-end k (omega arith)
+    byte k (lt h) (gt g) = room-end k (omega arith)
+    byte k (eq h) g = list-end k (omega arith)
+    byte k (gt h) g = list-end k (omega arith)

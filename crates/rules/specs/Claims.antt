@@ -64,6 +64,10 @@ pub record AreaHolds (area : Text) (xs : List Finding) (after : Text) : Type 0 w
 abbrev pub AreaKept : Type 0
 AreaKept = (area : Text) (xs : List Finding) → AreaHolds area xs (areaAfter area xs)
 
+-- and no other area is such
+abbrev pub OneArea : Type 0
+OneArea = (area : Text) (xs : List Finding) (a b : Text) → AreaHolds area xs a → AreaHolds area xs b → a ≡ b
+
 -- BLOCKS
 
 -- what a file without findings says of the events that its blocks name
