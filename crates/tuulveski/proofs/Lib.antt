@@ -2,3 +2,4 @@ pub mod Cases
 pub mod AnswerLaws
 pub mod FileLaws
 pub mod RunLaws
+pub mod DemandLaws

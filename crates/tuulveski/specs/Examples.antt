@@ -12,7 +12,7 @@ use Rattle.house.specs.Key.{keyOf}
 use Rattle.lines.specs.Lines.{LF}
 use Rattle.rules.specs.Forms.{isDosage, isReason}
 use Rattle.rules.specs.Codes.{reasonRead}
-use Rattle.tuulveski.specs.Answers.{Outcome, check, numbersOf}
+use Rattle.tuulveski.specs.Answers.{Lent, Outcome, check, numbersOf}
 
 -- a file of these lines
 abbrev pub fileOf : List String → Text
@@ -55,6 +55,13 @@ seven = "IE|5|123456789|TESTA|1|"
 unfoldable pub fileE : Text
 fileE = fileWith four six seven
 
+-- the file that deletes what File E adds
+unfoldable pub fileD : Text
+fileD =
+    fileWith "II|2|123456789|D||20220901||TESTV|LA|IM|50|0.5|ML|GSK|L1||||||||"
+    "II|4|123456789|D||20220901||TESTV|LA|IM|50|0.5|ML|GSK|L2||||||||"
+    seven
+
 -- so many bytes of a free slot or of a findings area
 abbrev pub zeros : ℕ → Text
 zeros n = replicate n 0
@@ -63,9 +70,12 @@ zeros n = replicate n 0
 abbrev pub eventOn : String → Text
 eventOn day = keyOf (bytes "123456789") (bytes day) (bytes "TESTV")
 
--- the check with book E, "Today 20220930", and room for two findings and a byte
+-- with book E, "Today 20220930", and room for two findings and a byte
+abbrev pub lentE : Text → Text → Lent
+lentE file ledger = record { today = 20220930; file = file; book = bookE; ledger = ledger; area = zeros 13 }
+
 abbrev pub on : Text → Text → Outcome
-on file ledger = check (record { today = 20220930; file = file; book = bookE; ledger = ledger; area = zeros 13 })
+on file ledger = check (lentE file ledger)
 
 -- the answer's numbers, the ledger and the findings area are these
 abbrev pub gives : Outcome → List ℕ → Text → Text → Bool
