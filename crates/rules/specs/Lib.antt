@@ -6,3 +6,5 @@ pub mod Codes
 pub mod Rules
 pub mod Findings
 pub mod Claims
+pub mod FileE
+pub mod Edges
