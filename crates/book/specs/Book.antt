@@ -150,3 +150,7 @@ isEntry k code e = eqb (e .kind) k && same (codeOf e) code
 -- the code is known: an entry has it
 unfoldable pub listed : List Entry → ℕ → Text → Bool
 listed es k code = any (isEntry k code) es
+
+-- and is in force on a day: such an entry is
+unfoldable pub listedOn : List Entry → ℕ → ℕ → Text → Bool
+listedOn es d k code = any (λ (e : Entry). isEntry k code e && inForce d e) es

@@ -19,8 +19,7 @@ use Rattle.house.proofs.Small.{clash}
 use Rattle.house.proofs.Decisions.{same-is, is-same-T}
 use Rattle.house.proofs.Padding.{pad-whole, pad-inj, pad-padded, length-key, key-uli, key-date, key-vaccine}
 use Rattle.lines.specs.Records.{Rec, II, isKind, recs}
-use Rattle.ledger.specs.Ledger.{Event, isAmong, eventForm}
-use Rattle.ledger.proofs.EventLaws.{among-in, in-among}
+use Rattle.ledger.specs.Ledger.{Event, eventForm}
 use Rattle.rules.specs.Forms.{fieldIn, text, table, formOf, isJudged, isOptional, isMissing, isMisformed, isSound, isUli, isType, isCode}
 use Rattle.rules.specs.Places.{Place, placesFrom, placesOf, placesIn}
 use Rattle.rules.specs.Blocks.{isInBlock, eventOf, sameEvent, joins, nearestOf, openAfter, joinsOpen, begins, beforeOpen, beforeBlock, isRepeated, beginsBlock, eventsOf, adds, changes, deletes}
@@ -275,36 +274,36 @@ module _ (s : Setting) (file : Text) (clean : findingsOf s file ≡ []) where
       (both-of (isInBlock (h .line)) (same (text (h .line) 4) type) i (p .1))
 
   -- the first II's event is live, or it is not, as its type asks
-  live-or : (h : Place) → (b : Bool) → isAmong (s .live) (eventOf (h .line)) ≡ b → (T (not (isAmong (s .live) (eventOf (h .line)))) → ⊥) → T (isAmong (s .live) (eventOf (h .line)))
-  live-or h true e n = of-true (isAmong (s .live) (eventOf (h .line))) e
+  live-or : (h : Place) → (b : Bool) → s .live (eventOf (h .line)) ≡ b → (T (not (s .live (eventOf (h .line)))) → ⊥) → T (s .live (eventOf (h .line)))
+  live-or h true e n = of-true (s .live (eventOf (h .line))) e
   live-or h false e n = absurd (n (subst (λ (b : Bool). T (not b)) (sym e) tt))
 
-  add-new : (h : Place) → In h hs → T (beginsBlock adds h) → T (isAmong (s .live) (eventOf (h .line))) → ⊥
+  add-new : (h : Place) → In h hs → T (beginsBlock adds h) → T (s .live (eventOf (h .line))) → ⊥
   unfolding rule16 seenAt hs
   add-new h m t l =
       not-16 s file clean h m (first-named h (begins-block adds h t .0))
-      (both-of (asks (seenAt s h) 4 adds) (isAmong (s .live) (eventOf (h .line))) (asks-it adds h t) l)
+      (both-of (asks (seenAt s h) 4 adds) (s .live (eventOf (h .line))) (asks-it adds h t) l)
 
-  change-live : (h : Place) → In h hs → T (beginsBlock changes h) → T (isAmong (s .live) (eventOf (h .line)))
+  change-live : (h : Place) → In h hs → T (beginsBlock changes h) → T (s .live (eventOf (h .line)))
   unfolding rule17 seenAt hs
   change-live h m t =
-      live-or h (isAmong (s .live) (eventOf (h .line))) refl
+      live-or h (s .live (eventOf (h .line))) refl
       (λ n.
       not-17 s file clean h m (first-named h (begins-block changes h t .0))
-      (both-of (asks (seenAt s h) 4 changes) (not (isAmong (s .live) (eventOf (h .line)))) (asks-it changes h t) n))
+      (both-of (asks (seenAt s h) 4 changes) (not (s .live (eventOf (h .line)))) (asks-it changes h t) n))
 
-  delete-live : (h : Place) → In h hs → T (beginsBlock deletes h) → T (isAmong (s .live) (eventOf (h .line)))
+  delete-live : (h : Place) → In h hs → T (beginsBlock deletes h) → T (s .live (eventOf (h .line)))
   unfolding rule18 seenAt hs
   delete-live h m t =
-      live-or h (isAmong (s .live) (eventOf (h .line))) refl
+      live-or h (s .live (eventOf (h .line))) refl
       (λ n.
       not-18 s file clean h m (first-named h (begins-block deletes h t .0))
-      (both-of (asks (seenAt s h) 4 deletes) (not (isAmong (s .live) (eventOf (h .line)))) (asks-it deletes h t) n))
+      (both-of (asks (seenAt s h) 4 deletes) (not (s .live (eventOf (h .line)))) (asks-it deletes h t) n))
 
-  from-live : (type : Text) → ((h : Place) → In h hs → T (beginsBlock type h) → T (isAmong (s .live) (eventOf (h .line)))) → (e : Event) → In e (eventsOf type hs) → In e (s .live)
+  from-live : (type : Text) → ((h : Place) → In h hs → T (beginsBlock type h) → T (s .live (eventOf (h .line)))) → (e : Event) → In e (eventsOf type hs) → T (s .live e)
   from-live type law e m =
       let r = event-from type hs e m in
-      subst (λ (x : Event). In x (s .live)) (sym (r .3)) (among-in (s .live) (eventOf (r .0 .line)) (law (r .0) (r .1) (r .2)))
+      subst (λ (x : Event). T (s .live x)) (sym (r .3)) (law (r .0) (r .1) (r .2))
 
 abbrev isChange : Text → Bool
 isChange t = eqb (getD t 0 0) 67
@@ -321,7 +320,7 @@ clean-file s file clean =
       adds-new =
           λ e m k.
           let r = event-from adds (placesIn file) e m in
-          add-new s file clean (r .0) (r .1) (r .2) (subst (λ (x : Event). T (isAmong (s .live) x)) (r .3) (in-among (s .live) e k));
+          add-new s file clean (r .0) (r .1) (r .2) (subst (λ (x : Event). T (s .live x)) (r .3) k);
       changes-live = from-live s file clean changes (change-live s file clean);
       deletes-live = from-live s file clean deletes (delete-live s file clean);
       adds-formed =

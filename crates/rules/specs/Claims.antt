@@ -80,9 +80,9 @@ pub record Clean (s : Setting) (hs : List Place) : Type 0 where
   pub change-or-add : (e : Event) → In e (eventsOf changes hs) → In e (eventsOf adds hs) → ⊥
   pub change-or-delete : (e : Event) → In e (eventsOf changes hs) → In e (eventsOf deletes hs) → ⊥
   -- as the ledger lent asks
-  pub adds-new : (e : Event) → In e (eventsOf adds hs) → In e (s .live) → ⊥
-  pub changes-live : (e : Event) → In e (eventsOf changes hs) → In e (s .live)
-  pub deletes-live : (e : Event) → In e (eventsOf deletes hs) → In e (s .live)
+  pub adds-new : (e : Event) → In e (eventsOf adds hs) → T (s .live e) → ⊥
+  pub changes-live : (e : Event) → In e (eventsOf changes hs) → T (s .live e)
+  pub deletes-live : (e : Event) → In e (eventsOf deletes hs) → T (s .live e)
   -- in the form of an event
   pub adds-formed : (e : Event) → In e (eventsOf adds hs) → T (eventForm e) × (length e ≡ 37)
 

@@ -4,9 +4,9 @@ use Prim.Native.Nat.{ℕ}
 use mathlib.Core.Bool.{Bool, true, false, cond, _&&_, _||_}
 use mathlib.Core.List.{List, [], _∷_}
 use lib.Dec.{eqb, ltb}
-use Rattle.house.specs.Text.{Text, bytes, any, oneOf, number}
+use Rattle.house.specs.Text.{Text, bytes, oneOf, number}
 use Rattle.lines.specs.Records.{Rec, II, IE, IN, IA}
-use Rattle.book.specs.Book.{Entry, inForce, codeText, isEntry, listed, vaccine, antigen, reason, manufacturer, dosageType, reasonNot, withReason, withAntigen}
+use Rattle.book.specs.Book.{codeText, vaccine, antigen, reason, manufacturer, dosageType, reasonNot, withReason, withAntigen}
 use Rattle.rules.specs.Forms.{text, isSound, isGiven}
 use Rattle.rules.specs.Places.{headKind}
 use Rattle.rules.specs.Seen.{Setting, Seen}
@@ -63,7 +63,7 @@ isKnown s k l f =
     isGiven k l f
     && cond (eqb k II && eqb f 9) (isSite (text l f))
     (cond (eqb k II && eqb f 10) (isMethod (text l f))
-    (listed (s .book) (bookKind k f) (codeIn k l f)))
+    (s .known (bookKind k f) (codeIn k l f)))
 
 -- "the record's date (II 6, also for its IE; IN 5, also for its IA)"
 unfoldable pub dayField : ℕ → ℕ
@@ -75,13 +75,9 @@ dayIsSound v = isSound (headKind (v .line .kind)) (v .head) (dayField (headKind 
 unfoldable pub dayOf : Seen → ℕ
 dayOf v = number (text (v .head) (dayField (headKind (v .line .kind))))
 
--- an entry is in force for the record of a line. (Change request 1 reads today and II 5 here.)
-unfoldable pub isInForce : Setting → Seen → Entry → Bool
-isInForce s v e = inForce (dayOf v) e
-
--- the book has this code in force for the record of a line
-unfoldable pub listedInForce : Setting → Seen → ℕ → Text → Bool
-listedInForce s v k code = any (λ (e : Entry). isEntry k code e && isInForce s v e) (s .book)
+-- a code is in force for the record of a line. (Change request 1 reads today and II 5 here.)
+unfoldable pub isInForce : Setting → Seen → ℕ → Text → Bool
+isInForce s v k code = s .in-force (dayOf v) k code
 
 -- a vaccine with its reason at II 11, with its antigen at IE 4: the kind of the pair, and the pair as the book writes it
 unfoldable pub pairKind : ℕ → ℕ

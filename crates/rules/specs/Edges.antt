@@ -9,8 +9,9 @@ use mathlib.Core.List.{List, [], _∷_, _++_}
 use lib.Dec.{eqb}
 use Rattle.house.specs.Text.{Text, bytes, all, pad}
 use Rattle.house.specs.Key.{keyOf}
-use Rattle.book.specs.Book.{bookOf}
-use Rattle.ledger.specs.Ledger.{Event}
+use Rattle.book.specs.Book.{Entry, bookOf, listed, listedOn}
+use Rattle.ledger.specs.Ledger.{Event, isAmong}
+use Rattle.rules.specs.Seen.{Setting}
 use Rattle.rules.specs.Findings.{Finding, findingsOf}
 use Rattle.rules.specs.FileE.{fileOf, bookE, fileWith, four, six, seven, fileE}
 
@@ -27,9 +28,12 @@ sameAll [] (y ∷ ys) = false
 sameAll (x ∷ xs) [] = false
 sameAll (x ∷ xs) (y ∷ ys) = sameFinding x y && sameAll xs ys
 
+abbrev settingBy : ℕ → List Entry → List Event → Setting
+settingBy today book live = record { today = today; known = listed book; in-force = listedOn book; live = isAmong live }
+
 -- the findings of a file, on a day, by a book, over live events, are these
 abbrev gives : ℕ → Text → List Event → Text → List Finding → Bool
-gives today book live file due = sameAll (findingsOf (record { today = today; book = bookOf book; live = live }) file) due
+gives today book live file due = sameAll (findingsOf (settingBy today (bookOf book) live) file) due
 
 -- of File E with other lines
 abbrev edited : Text → List Finding → Bool

@@ -7,12 +7,11 @@ use mathlib.Core.List.{List, [], _∷_, _++_}
 use lib.Dec.{eqb, ltb}
 use Rattle.house.specs.Text.{Text, bytes, same, any, all, number, isEmpty, within}
 use Rattle.lines.specs.Records.{Rec, IV, IP, II, IE, IN, IA}
-use Rattle.book.specs.Book.{listed}
 use Rattle.rules.specs.Forms.{text, isCount, isRelaxed, isMissing, isMisformed, isSound, isGiven}
 use Rattle.rules.specs.Places.{isNumbered}
 use Rattle.rules.specs.Blocks.{adds, changes, deletes}
 use Rattle.rules.specs.Seen.{Setting, Seen}
-use Rattle.rules.specs.Codes.{bookKind, isCodeField, codeIn, isKnown, dayIsSound, listedInForce, pairKind, pairIn}
+use Rattle.rules.specs.Codes.{bookKind, isCodeField, codeIn, isKnown, dayIsSound, isInForce, pairKind, pairIn}
 
 abbrev pub Rule : Type 0
 Rule = Setting → Seen → ℕ → Bool
@@ -46,7 +45,7 @@ unfoldable pub rule5 : Rule
 rule5 s v f =
     ltb 0 (bookKind (v .line .kind) f)
     && isKnown s (v .line .kind) (v .line) f
-    && (dayIsSound v && not (listedInForce s v (bookKind (v .line .kind) f) (codeIn (v .line .kind) (v .line) f)))
+    && (dayIsSound v && not (isInForce s v (bookKind (v .line .kind) f) (codeIn (v .line .kind) (v .line) f)))
 
 -- "6 at field 3: ULI differs from its IP's."
 unfoldable pub rule6 : Rule
@@ -105,8 +104,8 @@ unfoldable pub rule11 : Rule
 rule11 s v f =
     (isAt v f II 11 || isAt v f IE 4)
     && (isKnown s II (v .head) 8 && isKnown s (v .line .kind) (v .line) f)
-    && (not (listed (s .book) (pairKind (v .line .kind)) (pairIn v f))
-    || (dayIsSound v && not (listedInForce s v (pairKind (v .line .kind)) (pairIn v f))))
+    && (not (s .known (pairKind (v .line .kind)) (pairIn v f))
+    || (dayIsSound v && not (isInForce s v (pairKind (v .line .kind)) (pairIn v f))))
 
 -- "12 at IE 4: antigen already given in this II."
 unfoldable pub sameAntigen : Rec → Rec → Bool

@@ -3,18 +3,21 @@
 use Prim.Native.Nat.{ℕ, suc}
 use mathlib.Core.Bool.{Bool}
 use mathlib.Core.List.{List}
-use Rattle.house.specs.Text.{front, count}
+use Rattle.house.specs.Text.{Text, front, count}
 use Rattle.lines.specs.Records.{Rec, IP, IE, isKind}
-use Rattle.book.specs.Book.{Entry}
-use Rattle.ledger.specs.Ledger.{Event, isAmong}
+use Rattle.ledger.specs.Ledger.{Event}
 use Rattle.rules.specs.Places.{Place, nearest, headOf, isNumbered}
 use Rattle.rules.specs.Blocks.{isInBlock, eventOf, openAfter, blockIn, joinsOpen, firstOpen, isRepeated}
 
--- today, the entries of the book in use, and the events live in the ledger as lent
+-- today, what the book in use says, and what is live in the ledger as lent
 pub record Setting : Type 0 where
   pub today : ℕ
-  pub book : List Entry
-  pub live : List Event
+  -- the book has this code of this kind
+  pub known : ℕ → Text → Bool
+  -- and has it in force on this day
+  pub in-force : ℕ → ℕ → Text → Bool
+  -- the event is live
+  pub live : Event → Bool
 
 pub record Seen : Type 0 where
   -- "its place among IP, II, IE, IN and IA lines, from 1"
@@ -54,5 +57,5 @@ seenAt s h =
       own = front (isKind IE) (h .after);
       first = firstOpen (h .before);
       repeated = isRepeated (h .line) (h .before);
-      live = isAmong (s .live) (eventOf (h .line));
+      live = s .live (eventOf (h .line));
     }

@@ -13,7 +13,6 @@ use Rattle.house.specs.Text.{Text}
 use Rattle.house.specs.Members.{In}
 use Rattle.house.proofs.Facts.{both, either, of-true}
 use Rattle.house.proofs.Small.{clash}
-use Rattle.book.specs.Book.{bookOf}
 use Rattle.ledger.specs.Ledger.{Event, slotsIn, ledgerOk, liveIn, isAmong}
 use Rattle.ledger.proofs.EventLaws.{among-in}
 use Rattle.ledger.proofs.HeldLaws.{one-ledger}
@@ -26,7 +25,7 @@ use Rattle.tuulveski.specs.Answers.{Lent, Outcome, settingOf, findings, 
 use Rattle.tuulveski.specs.Runs.{Check, Call, lentTo, leaves, addedBy, deletedBy, ledgerAfterRun, allAdded, allDeleted, lastAdded}
 use Rattle.tuulveski.specs.Examples.{fileD, zeros, eventOn, lentE, on}
 use Rattle.tuulveski.specs.Demands.{Demand1, Demand2, Demand3, LedgerAfter, Demands, OneOutcome, Due, Lends, Shapely, Unbroken, Room, RefusesAll, Constant, NeverTouches, OnlyFirst, UselessShutOut}
-use Rattle.tuulveski.proofs.Cases.{computed}
+use Rattle.tuulveski.proofs.Cases.{settingE, computed}
 use Rattle.tuulveski.proofs.AnswerLaws.{given-due, lists-findings, none-unbroken}
 use Rattle.tuulveski.proofs.FileLaws.{demand-1, demand-2, ledger-after}
 use Rattle.tuulveski.proofs.RunLaws.{demand-3}
@@ -159,7 +158,7 @@ module _ (c : Check) (d : (x : Lent) → Demand2 x (c x)) where
     second-clean : findings second ≡ []
     unfolding findings settingOf second
     second-clean =
-        ap (λ (es : List Event). findingsOf (record { today = 20220930; book = bookOf bookE; live = es }) fileD) live-e ∙ computed .d-findings
+        ap (λ (es : List Event). findingsOf (settingE es) fileD) live-e ∙ computed .d-findings
 
     second-due : Due second (Accepted 0 0 1 0)
     unfolding Due second added changed deleted notImmunized

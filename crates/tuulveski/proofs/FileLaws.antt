@@ -18,7 +18,7 @@ use Rattle.lines.specs.declared.Shape.{Shape}
 use Rattle.lines.specs.declared.Shape.the-variants.{Right, Fault}
 use Rattle.book.specs.Book.{bookOk}
 use Rattle.ledger.specs.Ledger.{Event, slotsIn, eventForm, ledgerOk, liveIn, eventsAfter, ledgerWith}
-use Rattle.ledger.proofs.EventLaws.{in-after, after-in, count-after, count-every, every, up-after, Up, up-distinct, after-none}
+use Rattle.ledger.proofs.EventLaws.{among-in, in-among, in-after, after-in, count-after, count-every, every, up-after, Up, up-distinct, after-none}
 use Rattle.ledger.proofs.HeldLaws.{AllLong, well-formed, with-length, live-with, with-ok, live-long, live-formed, live-up}
 use Rattle.rules.specs.Places.{placesIn}
 use Rattle.rules.specs.Findings.{Finding, areaAfter}
@@ -106,11 +106,11 @@ module _ (x : Lent) (a : Accepts x) where
 
   new : (e : Event) → In e (added x) → In e (liveIn (x .ledger)) → ⊥
   unfolding added settingOf
-  new e m k = clean .adds-new e m k
+  new e m k = clean .adds-new e m (in-among (liveIn (x .ledger)) e k)
 
   pub was-live : (e : Event) → In e (deleted x) → In e (liveIn (x .ledger))
   unfolding deleted settingOf
-  was-live e m = clean .deletes-live e m
+  was-live e m = among-in (liveIn (x .ledger)) e (clean .deletes-live e m)
 
   pub adds-once : Distinct (added x)
   unfolding added
@@ -122,7 +122,7 @@ module _ (x : Lent) (a : Accepts x) where
 
   changes-live : (e : Event) → In e (changed x) → In e (liveIn (x .ledger))
   unfolding changed settingOf
-  changes-live e m = clean .changes-live e m
+  changes-live e m = among-in (liveIn (x .ledger)) e (clean .changes-live e m)
 
   change-kept : (e : Event) → In e (changed x) → In e (deleted x) → ⊥
   unfolding changed deleted

@@ -11,8 +11,8 @@ use Rattle.lines.specs.Records.{IN, isKind, recs}
 use Rattle.lines.specs.Shape.{shapeOf}
 use Rattle.lines.specs.declared.Shape.{Shape}
 use Rattle.lines.specs.declared.Shape.the-variants as shape
-use Rattle.book.specs.Book.{bookOk, bookOf}
-use Rattle.ledger.specs.Ledger.{Event, slotsIn, ledgerOk, liveIn, eventsAfter, ledgerWith}
+use Rattle.book.specs.Book.{bookOk, bookOf, listed, listedOn}
+use Rattle.ledger.specs.Ledger.{Event, slotsIn, ledgerOk, liveIn, isAmong, eventsAfter, ledgerWith}
 use Rattle.rules.specs.Places.{placesIn}
 use Rattle.rules.specs.Blocks.{eventsOf, adds, changes, deletes}
 use Rattle.rules.specs.Seen.{Setting}
@@ -39,7 +39,13 @@ abbrev pub fileMost : ℕ
 fileMost = 5000000
 
 unfoldable pub settingOf : Lent → Setting
-settingOf x = record { today = x .today; book = bookOf (x .book); live = liveIn (x .ledger) }
+settingOf x =
+    record {
+      today = x .today;
+      known = listed (bookOf (x .book));
+      in-force = listedOn (bookOf (x .book));
+      live = isAmong (liveIn (x .ledger));
+    }
 
 unfoldable pub findings : Lent → List Finding
 findings x = findingsOf (settingOf x) (x .file)
