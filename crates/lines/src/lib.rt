@@ -1,7 +1,17 @@
-// Reading lines: the lines of a file, their fields, and the file's shape.
+// Reading lines: the lines of a file, their fields, the kinds of records, and the file's shape.
+mod line;
+
+pub use line::line_at;
 
 // A file's shape: right, or the first line with a fault and its lowest cause.
 pub enum Shape {
     Right,
     Fault { line: usize, cause: u8 },
+}
+
+// A line in its file: where its text ends, where the next line starts, and whether an LF ends it.
+pub struct LineAt {
+    pub end: usize,
+    pub next: usize,
+    pub lf: bool,
 }
