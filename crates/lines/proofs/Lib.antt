@@ -1,4 +1,6 @@
 -- Laws for the crates above
 pub mod LineLaws
+pub mod FieldLaws
 -- What the functions' own needs ask
 mod LineNeeds
+mod FieldNeeds

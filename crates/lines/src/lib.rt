@@ -1,6 +1,11 @@
 // Reading lines: the lines of a file, their fields, the kinds of records, and the file's shape.
+mod fields;
 mod line;
 
+pub use fields::count_fields;
+pub use fields::field;
+pub use fields::field_of;
+pub use fields::has_field;
 pub use line::line_at;
 
 // A file's shape: right, or the first line with a fault and its lowest cause.
