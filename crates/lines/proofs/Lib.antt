@@ -4,3 +4,4 @@ pub mod FieldLaws
 -- What the functions' own needs ask
 mod LineNeeds
 mod FieldNeeds
+mod KindNeeds
