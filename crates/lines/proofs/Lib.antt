@@ -5,3 +5,4 @@ pub mod FieldLaws
 mod LineNeeds
 mod FieldNeeds
 mod KindNeeds
+mod FaultNeeds

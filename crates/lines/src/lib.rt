@@ -1,8 +1,10 @@
 // Reading lines: the lines of a file, their fields, the kinds of records, and the file's shape.
+mod faults;
 mod fields;
 mod kinds;
 mod line;
 
+pub use faults::shape_of;
 pub use fields::count_fields;
 pub use fields::field;
 pub use fields::field_of;
