@@ -1,6 +1,8 @@
 -- Laws for the crates above
 pub mod LineLaws
+pub mod PartLaws
 pub mod FieldLaws
+pub mod ShapeLaws
 -- What the functions' own needs ask
 mod LineNeeds
 mod FieldNeeds
