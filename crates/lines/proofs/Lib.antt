@@ -8,3 +8,5 @@ mod LineNeeds
 mod FieldNeeds
 mod KindNeeds
 mod FaultNeeds
+-- No second answer
+mod OneAnswer
