@@ -1,7 +1,7 @@
 -- Members: of lists put together, of those that pass a test, of what a function gives.
 -- Assumes nothing.
 use mathlib.Core.Path.{_≡_, refl, sym, ap, _∙_, subst}
-use mathlib.Core.Bool.{Bool, true, false, cond}
+use mathlib.Core.Bool.{Bool, true, false, cond, _&&_, _||_}
 use mathlib.Core.Logic.{_⊎_, inl, inr, ⊎-elim}
 use mathlib.Core.List.{List, [], _∷_, _++_, map}
 use lib.Dec.{T}
@@ -178,3 +178,11 @@ count-append p (x ∷ xs) ys = go (p x) (count-append p xs ys)
     go : (b : Bool) → count p (xs ++ ys) ≡ count p xs + count p ys → cond b (suc (count p (xs ++ ys))) (count p (xs ++ ys)) ≡ cond b (suc (count p xs)) (count p xs) + count p ys
     go true e = omega arith
     go false e = e
+
+pub all-append : {A : Type 0} (p : A → Bool) (xs ys : List A) → all p (xs ++ ys) ≡ all p xs && all p ys
+all-append p [] ys = refl
+all-append p (x ∷ xs) ys = go (p x) (all-append p xs ys)
+  where
+    go : (b : Bool) → all p (xs ++ ys) ≡ all p xs && all p ys → b && all p (xs ++ ys) ≡ b && all p xs && all p ys
+    go true e = e
+    go false e = refl
