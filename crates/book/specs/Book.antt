@@ -89,7 +89,7 @@ startOf e = take (startWidth (e .kind)) (datesOf e)
 unfoldable pub endOf : Entry → Text
 endOf e = drop (startWidth (e .kind)) (datesOf e)
 
--- Forms: two digits or a padded code; a start is a date, an end a date or open
+-- Forms: two digits or a padded code; "A start is a date and may exceed its end; that code is then never in force."
 
 unfoldable pub firstForm : ℕ → Text → Bool
 firstForm k t = cond (eqb k reason) (digits t) (isPadded t)

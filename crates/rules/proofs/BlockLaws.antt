@@ -24,7 +24,7 @@ use Rattle.rules.specs.Forms.{fieldIn, text, table, formOf, isJudged, is
 use Rattle.rules.specs.Places.{Place, placesFrom, placesOf, placesIn}
 use Rattle.rules.specs.Blocks.{isInBlock, eventOf, sameEvent, joins, nearestOf, openAfter, joinsOpen, begins, beforeOpen, beforeBlock, isRepeated, beginsBlock, eventsOf, adds, changes, deletes}
 use Rattle.rules.specs.Seen.{Setting, Seen, seenAt}
-use Rattle.rules.specs.Rules.{rules, rulesOf, isBroken, isAt, asks, rule15, rule16, rule17, rule18}
+use Rattle.rules.specs.Rules.{rules, rulesIn, rulesOf, isBroken, isAt, asks, rule15, rule16, rule17, rule18}
 use Rattle.rules.specs.Findings.{Finding, findingsOf}
 use Rattle.rules.specs.Claims.{Clean, CleanFile, LotsOnce}
 use Rattle.rules.proofs.FindingLaws.{findings-listed}
@@ -142,19 +142,19 @@ module _ (s : Setting) (file : Text) (clean : findingsOf s file ≡ []) where
 
   module _ (h : Place) (m : In h (placesIn file)) (b : Named (h .line)) where
     not-15 : T (rule15 s (seenAt s h) 8) → ⊥
-    unfolding isBroken rulesOf rules
+    unfolding isBroken rulesOf rulesIn rules
     not-15 t = unbroken h 8 15 m (omega arith) (there (h .line .fields) 8 (b .code-given)) (left-of (rule15 s (seenAt s h) 8) false t)
 
     not-16 : T (rule16 s (seenAt s h) 4) → ⊥
-    unfolding isBroken rulesOf rules
+    unfolding isBroken rulesOf rulesIn rules
     not-16 t = unbroken h 4 16 m (omega arith) (there (h .line .fields) 4 (b .type-given)) (left-of (rule16 s (seenAt s h) 4) false t)
 
     not-17 : T (rule17 s (seenAt s h) 4) → ⊥
-    unfolding isBroken rulesOf rules
+    unfolding isBroken rulesOf rulesIn rules
     not-17 t = unbroken h 4 17 m (omega arith) (there (h .line .fields) 4 (b .type-given)) (left-of (rule17 s (seenAt s h) 4) false t)
 
     not-18 : T (rule18 s (seenAt s h) 4) → ⊥
-    unfolding isBroken rulesOf rules
+    unfolding isBroken rulesOf rulesIn rules
     not-18 t = unbroken h 4 18 m (omega arith) (there (h .line .fields) 4 (b .type-given)) (left-of (rule18 s (seenAt s h) 4) false t)
 
 -- Each event once

@@ -16,7 +16,7 @@ use Rattle.house.proofs.Small.{Three, lt, eq, gt, three}
 use Rattle.lines.specs.Records.{Rec, recs}
 use Rattle.rules.specs.Places.{Place, placesFrom, placesOf, placesIn}
 use Rattle.rules.specs.Seen.{Setting, Seen, seenAt}
-use Rattle.rules.specs.Rules.{Numbered, rules, rulesOf, isBroken, brokenBy, brokenAt}
+use Rattle.rules.specs.Rules.{Numbered, rules, rulesIn, rulesOf, isBroken, brokenBy, brokenAt}
 use Rattle.rules.specs.Findings.{Finding, found, fieldsFindings, lineFindings, findingsOf}
 use Rattle.rules.specs.Claims.{Broken, Before, Ascending, Lists, FindingsListed, OneList}
 
@@ -81,7 +81,7 @@ module _ (s : Setting) (v : Seen) (f : ℕ) where
 
   -- the eighteen rise
   pub at-up : Rising _<_ (brokenAt s v f)
-  unfolding brokenAt rulesOf rules
+  unfolding brokenAt rulesOf rulesIn rules
   at-up = broken-up 0 rules tt
 
   pub in-at : (r : ℕ) → In r (brokenAt s v f) → T (isBroken s v f r)

@@ -25,6 +25,7 @@ sameEvent l p = same (text l 3) (text p 3) && (same (text l 6) (text p 6) && sam
 unfoldable pub joins : Rec → Rec → Bool
 joins l p = same (text l 4) (text p 4) && sameEvent l p
 
+-- the nearest line, or one that is not there, which no sound line joins: its fields are empty
 abbrev pub nearestOf : List Rec → Rec
 nearestOf [] = noRec
 nearestOf (l ∷ ls) = l
@@ -47,18 +48,18 @@ joinsOpen l before = isInBlock l && joins l (nearestOf (openAfter before))
 unfoldable pub begins : Rec → List Rec → Bool
 begins l before = isInBlock l && not (joins l (nearestOf (openAfter before)))
 
--- the block that is open after these lines has a second II
+-- a block is open after these lines, and has a second II
 abbrev pub hasSecond : List Rec → Bool
 hasSecond [] = false
 hasSecond (l ∷ before) = cond (isKind IE l) (hasSecond before) (joinsOpen l before)
 
--- the IE lines of the first II of the block that is open after these lines, nearest first
+-- where a block is open after these lines, the IE lines of its first II, nearest first
 abbrev pub firstOpen : List Rec → List Rec
 firstOpen [] = []
 firstOpen (l ∷ before) =
     cond (isKind IE l) (cond (hasSecond before) (firstOpen before) (l ∷ firstOpen before)) (cond (joinsOpen l before) (firstOpen before) [])
 
--- the lines before the block that is open after these lines, nearest first
+-- where a block is open after these lines, the lines before it, nearest first
 abbrev pub beforeOpen : List Rec → List Rec
 beforeOpen [] = []
 beforeOpen (l ∷ before) = cond (isKind IE l || joinsOpen l before) (beforeOpen before) before

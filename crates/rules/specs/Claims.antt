@@ -1,4 +1,5 @@
--- What is claimed of the findings and of the blocks, as types; the proofs stand in proofs/.
+-- What is claimed of the findings and of the blocks, as types; the proofs stand in proofs/. What is quoted here is from the demands
+-- (docs/PROMISES.md).
 -- Assumes nothing.
 use Prim.Native.Nat.{ℕ, _+_, _*_, _/_, _≤_, _<_}
 use mathlib.Core.Path.{_≡_}

@@ -72,12 +72,12 @@ dayField k = cond (eqb k II) 6 5
 unfoldable pub dayIsSound : Seen → Bool
 dayIsSound v = isSound (headKind (v .line .kind)) (v .head) (dayField (headKind (v .line .kind)))
 
-unfoldable pub dayOf : Seen → ℕ
-dayOf v = number (text (v .head) (dayField (headKind (v .line .kind))))
+unfoldable pub recordDay : Seen → ℕ
+recordDay v = number (text (v .head) (dayField (headKind (v .line .kind))))
 
 -- a code is in force for the record of a line. (Change request 1 reads today and II 5 here.)
 unfoldable pub isInForce : Setting → Seen → ℕ → Text → Bool
-isInForce s v k code = s .in-force (dayOf v) k code
+isInForce s v k code = s .in-force (recordDay v) k code
 
 -- a vaccine with its reason at II 11, with its antigen at IE 4: the kind of the pair, and the pair as the book writes it
 unfoldable pub pairKind : ℕ → ℕ

@@ -29,7 +29,7 @@ sameAll (x ∷ xs) [] = false
 sameAll (x ∷ xs) (y ∷ ys) = sameFinding x y && sameAll xs ys
 
 abbrev settingBy : ℕ → List Entry → List Event → Setting
-settingBy today book live = record { today = today; known = listed book; in-force = listedOn book; live = isAmong live }
+settingBy today book live = record { profile = 0; today = today; known = listed book; in-force = listedOn book; live = isAmong live }
 
 -- the findings of a file, on a day, by a book, over live events, are these
 abbrev gives : ℕ → Text → List Event → Text → List Finding → Bool
@@ -117,7 +117,7 @@ edge10 =
 unfoldable pub edge11 : Bool
 edge11 = gives 20220930 (bookWith "99999999" []) [] fileE (at 4 11 11 ∷ at 6 11 11 ∷ [])
 
--- an antigen twice in one II; the same one in the next II is no repeat
+-- an antigen twice in one II
 unfoldable pub edge12 : Bool
 edge12 =
     edited (visits (four ∷ "IE|3|123456789|TESTA|1|" ∷ "IE|4|123456789|TESTA|2|" ∷ [])) (at 6 4 12 ∷ [])

@@ -18,6 +18,7 @@ text l f = fieldIn (l .fields) f
 
 -- The forms, of texts that are not empty
 
+-- "IV 2: `7.2`" is rule 3's, and "IF 3: not empty" is rule 1's: no form is asked of either
 unfoldable pub anything : Text → Bool
 anything t = true
 
@@ -77,7 +78,7 @@ unfoldable pub isFraction : Text → Bool
 isFraction [] = true
 isFraction (b ∷ t) = eqb b 46 && run 1 2 isDigit t
 
--- "II 12 dosage: 1 to 6 digits, then perhaps a point and one or two digits; above 0"
+-- "II 12 dosage: 1 to 6 digits, then perhaps a point and one or two digits; above 0": some digit is not 0
 unfoldable pub isDosage : Text → Bool
 isDosage t = within 1 6 (length (front isDigit t)) && (isFraction (behind isDigit t) && any (within 49 57) t)
 
@@ -192,7 +193,7 @@ isRelaxed l = relaxedBy (l .fields)
 unfoldable pub isOptional : ℕ → Rec → ℕ → Bool
 isOptional k l f = (eqb k II && eqb f 5) || (eqb k IN && eqb f 8) || (eqb k II && within 9 15 f && isRelaxed l)
 
--- Judged as a field of a record of kind k
+-- Judged as a field of a record of kind k, which is the kind that the line should have: a line that is not there has every field empty
 
 unfoldable pub isMissing : ℕ → Rec → ℕ → Bool
 isMissing k l f = isJudged k f && not (isOptional k l f) && isEmpty (text l f)

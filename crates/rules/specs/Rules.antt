@@ -71,6 +71,8 @@ rule8 s v f =
     && (afterToday s v f || (not (isAt v f IP 25) && beforeBirth v f))
 
 -- "9 at II 9: method PO without site MO, or IN without NO; at II 10: site MO without PO, or NO without IN; both fields present."
+
+-- x is a, and y is not b
 unfoldable pub without : Text → Text → Text → Text → Bool
 without x a y b = same x a && not (same y b)
 
@@ -116,6 +118,8 @@ rule12 s v f = isAt v f IE 4 && sound v 4 && any (sameAntigen (v .line)) (v .ant
 
 -- "13 at II 8: its antigens with counts, as numbers, are not the set that the block's first II has; judged if all those IE fields are
 -- sound."
+
+-- an IE's count as a number; 0 where it is not sound, and then rule 13 is not judged
 unfoldable pub doseOf : Rec → ℕ
 doseOf l = cond (isCount (text l 5)) (number (text l 5)) 0
 
@@ -133,7 +137,7 @@ setsDiffer own first = not (allIn own first && allIn first own)
 
 unfoldable pub rule13 : Rule
 rule13 s v f =
-    isAt v f II 8 && (v .joined && (countsSound (v .own) && (countsSound (v .first) && setsDiffer (v .own) (v .first))))
+    isAt v f II 8 && (v .not-first && (countsSound (v .own) && (countsSound (v .first) && setsDiffer (v .own) (v .first))))
 
 -- "14 at II 15: an earlier II of the block has the same lot (two empty lots are the same)."
 unfoldable pub sameLot : Rec → Rec → Bool
@@ -190,9 +194,13 @@ rules =
     ∷ numbered 18 rule18
     ∷ []
 
--- the rules that a file is judged by. (Change requests 5 and 11 add to them here.)
+-- the rules of a profile. (Change requests 5 and 11 add to them here.)
+unfoldable pub rulesIn : ℕ → List Numbered
+rulesIn profile = rules
+
+-- the rules that a file is judged by
 unfoldable pub rulesOf : Setting → List Numbered
-rulesOf s = rules
+rulesOf s = rulesIn (s .profile)
 
 -- rule r is broken at field f
 unfoldable pub isBroken : Setting → Seen → ℕ → ℕ → Bool

@@ -11,6 +11,8 @@ use Rattle.rules.specs.Blocks.{isInBlock, eventOf, openAfter, blockIn, j
 
 -- today, what the book in use says, and what is live in the ledger as lent
 pub record Setting : Type 0 where
+  -- which rules: 0, today's, is the only profile. (Change request 11 adds another.)
+  pub profile : ℕ
   pub today : ℕ
   -- the book has this code of this kind
   pub known : ℕ → Text → Bool
@@ -32,15 +34,15 @@ pub record Seen : Type 0 where
   pub in-block : Bool
   -- the earlier II lines of its block
   pub block : List Rec
-  -- there are such
-  pub joined : Bool
+  -- there are such: it is not the first
+  pub not-first : Bool
   -- the IE lines of the II
   pub own : List Rec
   -- those of its block's first II, where it is not the first
   pub first : List Rec
   -- an earlier block names its event
   pub repeated : Bool
-  -- its event is live in the ledger as lent
+  -- the event that its fields 3, 6 and 8 name is live in the ledger as lent; asked of an II in a block alone
   pub live : Bool
 
 unfoldable pub seenAt : Setting → Place → Seen
@@ -53,7 +55,7 @@ seenAt s h =
       antigens = front (isKind IE) (h .before);
       in-block = isInBlock (h .line);
       block = blockIn (h .line) (openAfter (h .before));
-      joined = joinsOpen (h .line) (h .before);
+      not-first = joinsOpen (h .line) (h .before);
       own = front (isKind IE) (h .after);
       first = firstOpen (h .before);
       repeated = isRepeated (h .line) (h .before);

@@ -22,7 +22,7 @@ use Rattle.rules.specs.Findings.{Finding, findingsOf}
 use Rattle.rules.proofs.FindingLaws.{findings-listed, one-list}
 use Rattle.tuulveski.specs.declared.Answer.{Answer}
 use Rattle.tuulveski.specs.declared.Answer.the-variants.{Accepted, Date, Long, Book, Ledger, Shape as BadShape, Findings, Full}
-use Rattle.tuulveski.specs.Answers.{Lent, Outcome, fileMost, settingOf, findings, added, changed, deleted, notImmunized, isFull, refused, accepted, found, roomed, judged, shaped, check}
+use Rattle.tuulveski.specs.Answers.{Lent, Outcome, fileMost, settingOf, findings, added, changed, deleted, notImmunized, isFull, refused, accepted, withFindings, roomed, judged, shaped, check}
 use Rattle.tuulveski.specs.Demands.{Unbroken, ListsAll, Room, Lends, Shapely, Due}
 
 -- Findings and room, as facts
@@ -63,10 +63,10 @@ no-room x e r = let h = ltb-true (slotsIn (x .ledger) + length (deleted x)) (len
 -- What is given is due
 
 judged-due : (x : Lent) → Shapely x → Due x (judged x .answer)
-unfolding Due judged roomed found accepted
+unfolding Due judged roomed withFindings accepted
 judged-due x s = go (isEmpty (findings x)) (isFull x) refl refl
   where
-    go : (a b : Bool) → isEmpty (findings x) ≡ a → isFull x ≡ b → Due x (cond a (cond b (refused x Full) (accepted x)) (found x) .answer)
+    go : (a b : Bool) → isEmpty (findings x) ≡ a → isFull x ≡ b → Due x (cond a (cond b (refused x Full) (accepted x)) (withFindings x) .answer)
     go false b e f = (s, not-empty (findings x) e, findings x, lists-findings x, refl)
     go true true e f = (s, none-unbroken x (empty-none (findings x) e), no-room x f)
     go true false e f = (s, none-unbroken x (empty-none (findings x) e), room x f, refl, refl, refl, refl)
@@ -106,7 +106,7 @@ shapely-check x s = lends-check x (s .lends) ∙ ap (shaped x) (s .right)
 
 pub unbroken-check : (x : Lent) → Shapely x → Unbroken x → check x ≡ roomed x
 unfolding judged
-unbroken-check x s u = shapely-check x s ∙ ap (λ (ys : List Finding). cond (isEmpty ys) (roomed x) (found x)) (unbroken-none x u)
+unbroken-check x s u = shapely-check x s ∙ ap (λ (ys : List Finding). cond (isEmpty ys) (roomed x) (withFindings x)) (unbroken-none x u)
 
 full-is : (x : Lent) → (Room x → ⊥) → isFull x ≡ true
 unfolding isFull
@@ -120,13 +120,13 @@ not-full : (x : Lent) → Room x → isFull x ≡ false
 unfolding isFull
 not-full x r = le-ltb (slotsIn (x .ledger) + length (deleted x)) (length (liveIn (x .ledger)) + length (added x)) r
 
-found-check : (x : Lent) → Shapely x → (ys : List Finding) → 1 ≤ length ys → findings x ≡ ys → check x ≡ found x
+found-check : (x : Lent) → Shapely x → (ys : List Finding) → 1 ≤ length ys → findings x ≡ ys → check x ≡ withFindings x
 unfolding judged
 found-check x s [] p e = absurd (omega arith)
-found-check x s (y ∷ ys) p e = shapely-check x s ∙ ap (λ (zs : List Finding). cond (isEmpty zs) (roomed x) (found x)) e
+found-check x s (y ∷ ys) p e = shapely-check x s ∙ ap (λ (zs : List Finding). cond (isEmpty zs) (roomed x) (withFindings x)) e
 
 pub due-given : (x : Lent) (a : Answer) → Due x a → check x .answer ≡ a
-unfolding Due check roomed accepted found
+unfolding Due check roomed accepted withFindings
 due-given x (Accepted a c d n) h =
     let r : check x ≡ accepted x = unbroken-check x (h .0) (h .1) ∙ ap (λ (b : Bool). cond b (refused x Full) (accepted x)) (not-full x (h .2)) in
     ap (λ (o : Outcome). o .answer) r ∙ rw (h .3, h .4, h .5, h .6)

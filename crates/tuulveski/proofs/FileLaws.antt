@@ -27,7 +27,7 @@ use Rattle.rules.proofs.AreaLaws.{area-kept}
 use Rattle.rules.proofs.BlockLaws.{clean-file}
 use Rattle.tuulveski.specs.declared.Answer.{Answer}
 use Rattle.tuulveski.specs.declared.Answer.the-variants.{Accepted, Date, Long, Book, Ledger, Shape as BadShape, Findings, Full}
-use Rattle.tuulveski.specs.Answers.{Lent, Outcome, fileMost, settingOf, findings, added, changed, deleted, isFull, ledgerAfter, refused, accepted, found, roomed, judged, shaped, check, numbersOf, isAccepted, isFindings}
+use Rattle.tuulveski.specs.Answers.{Lent, Outcome, fileMost, settingOf, findings, added, changed, deleted, isFull, ledgerAfter, refused, accepted, withFindings, roomed, judged, shaped, check, numbersOf, isAccepted, isFindings}
 use Rattle.tuulveski.specs.Demands.{Demand1, Demand2, LedgerAfter, Unbroken, ListsAll, Room, Lends, Shapely, Due}
 use Rattle.tuulveski.proofs.AnswerLaws.{given-due, due-given, only-findings, unbroken-none}
 
@@ -40,10 +40,10 @@ Left x o =
     × (o .area ≡ cond (isFindings (o .answer)) (areaAfter (x .area) (findings x)) (x .area))
 
 judged-left : (x : Lent) → Left x (judged x)
-unfolding judged roomed found accepted isAccepted isFindings
+unfolding judged roomed withFindings accepted isAccepted isFindings
 judged-left x = go (isEmpty (findings x)) (isFull x)
   where
-    go : (a b : Bool) → Left x (cond a (cond b (refused x Full) (accepted x)) (found x))
+    go : (a b : Bool) → Left x (cond a (cond b (refused x Full) (accepted x)) (withFindings x))
     go true true = (refl, refl)
     go true false = (refl, refl)
     go false b = (refl, refl)

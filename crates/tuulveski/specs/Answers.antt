@@ -41,6 +41,7 @@ fileMost = 5000000
 unfoldable pub settingOf : Lent → Setting
 settingOf x =
     record {
+      profile = 0;
       today = x .today;
       known = listed (bookOf (x .book));
       in-force = listedOn (bookOf (x .book));
@@ -60,11 +61,11 @@ changed x = eventsOf changes (placesIn (x .file))
 unfoldable pub deleted : Lent → List Event
 deleted x = eventsOf deletes (placesIn (x .file))
 
--- "IN records"
+-- "IN records aren't kept in the ledger.": they are counted
 unfoldable pub notImmunized : Lent → ℕ
 notImmunized x = count (isKind IN) (recs (x .file))
 
--- "live + added - deleted exceeds the slots"
+-- "live + added - deleted exceeds the slots": "Room freed by a file serves the same file."
 unfoldable pub isFull : Lent → Bool
 isFull x = ltb (slotsIn (x .ledger) + length (deleted x)) (length (liveIn (x .ledger)) + length (added x))
 
@@ -76,7 +77,7 @@ ledgerAfter x = ledgerWith (length (x .ledger)) (eventsAfter (liveIn (x .ledger)
 abbrev pub refused : Lent → Answer → Outcome
 refused x a = record { answer = a; ledger = x .ledger; area = x .area }
 
--- "0 ACCEPTED: nothing below; blocks added, changed, deleted; IN records"
+-- 0 ACCEPTED, "nothing below"; with "blocks added, changed, deleted; IN records"
 unfoldable pub accepted : Lent → Outcome
 accepted x =
     record {
@@ -85,24 +86,24 @@ accepted x =
       area = x .area;
     }
 
--- "6 FINDINGS: one finding or more; how many in all"
-unfoldable pub found : Lent → Outcome
-found x = record { answer = Findings (length (findings x)); ledger = x .ledger; area = areaAfter (x .area) (findings x) }
+-- 6 FINDINGS, "one finding or more"; with "how many in all"
+unfoldable pub withFindings : Lent → Outcome
+withFindings x = record { answer = Findings (length (findings x)); ledger = x .ledger; area = areaAfter (x .area) (findings x) }
 
--- "7 FULL", of a file without findings
+-- 7 FULL, "live + added - deleted exceeds the slots": of a file without findings
 unfoldable pub roomed : Lent → Outcome
 roomed x = cond (isFull x) (refused x Full) (accepted x)
 
 -- of a file of right shape
 unfoldable pub judged : Lent → Outcome
-judged x = cond (isEmpty (findings x)) (roomed x) (found x)
+judged x = cond (isEmpty (findings x)) (roomed x) (withFindings x)
 
--- "5 SHAPE: a fault of shape; line, cause"
+-- 5 SHAPE, "a fault of shape"; with "line, cause"
 abbrev pub shaped : Lent → Shape → Outcome
 shaped x shape.Right = judged x
 shaped x (shape.Fault n cause) = refused x (BadShape n cause)
 
--- "1 DATE: today is no date", "2 LONG: file over 5,000,000 bytes", "3 BOOK: code book malformed", "4 LEDGER: ledger malformed".
+-- 1 DATE, "today is no date"; 2 LONG, "file over 5,000,000 bytes"; 3 BOOK, "code book malformed"; 4 LEDGER, "ledger malformed".
 -- "The lowest number that applies is given."
 unfoldable pub check : Lent → Outcome
 check x =

@@ -1,4 +1,5 @@
--- The three demands, and what a check that is of no use would break: statements, over any check. The proofs stand in proofs/.
+-- The three demands, and what a check that is of no use would break: statements, over any check. The proofs stand in proofs/. What is
+-- quoted here is from the demands (docs/PROMISES.md), but for the ledger's form and the useless checks, which are document 01's.
 -- Assumes nothing.
 use Prim.Native.Nat.{ℕ, _+_, _≤_, _<_}
 use mathlib.Core.Path.{_≡_}

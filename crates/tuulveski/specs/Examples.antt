@@ -9,8 +9,9 @@ use lib.ListN.{replicate}
 use Rattle.house.specs.Text.{Text, bytes, same, all}
 use Rattle.house.specs.Dates.{isDate, isDay}
 use Rattle.house.specs.Key.{keyOf}
-use Rattle.rules.specs.Forms.{isDosage, isReason}
-use Rattle.rules.specs.Codes.{reasonRead}
+use Rattle.lines.specs.Records.{II, recOf}
+use Rattle.rules.specs.Forms.{formOf}
+use Rattle.rules.specs.Codes.{codeRead}
 use Rattle.rules.specs.FileE.{fileOf, bookE, fileWith, four, six, seven, fileE}
 use Rattle.tuulveski.specs.Answers.{Lent, Outcome, check, numbersOf}
 
@@ -92,20 +93,24 @@ p7 = isDate (bytes "20240229") && isDay 20240229 && not (isDate (bytes "20230229
 -- "P8 dosages 0.01 and 999999.99 are sound; 0.00, 1000000 and .5 aren't."
 unfoldable pub p8 : Bool
 p8 =
-    isDosage (bytes "0.01")
-    && isDosage (bytes "999999.99")
-    && not (isDosage (bytes "0.00"))
-    && not (isDosage (bytes "1000000"))
-    && not (isDosage (bytes ".5"))
+    formOf II 12 (bytes "0.01")
+    && formOf II 12 (bytes "999999.99")
+    && not (formOf II 12 (bytes "0.00"))
+    && not (formOf II 12 (bytes "1000000"))
+    && not (formOf II 12 (bytes ".5"))
+
+-- the reason of an II as read
+abbrev readAs : String → Text
+readAs line = codeRead II (recOf (bytes line)) 11
 
 -- "P9 reasons "2" and " 2" read 02; two blanks are unsound."
 unfoldable pub p9 : Bool
 p9 =
-    isReason (bytes "2")
-    && isReason (bytes " 2")
-    && same (reasonRead (bytes "2")) (bytes "02")
-    && same (reasonRead (bytes " 2")) (bytes "02")
-    && not (isReason (bytes "  "))
+    formOf II 11 (bytes "2")
+    && formOf II 11 (bytes " 2")
+    && same (readAs "II|2|123456789|A||20220901||TESTV|LA|IM|2|") (bytes "02")
+    && same (readAs "II|2|123456789|A||20220901||TESTV|LA|IM| 2|") (bytes "02")
+    && not (formOf II 11 (bytes "  "))
 
 -- "P10 PO with LA: II 9 rule 9 only."
 unfoldable pub p10 : Bool
@@ -113,11 +118,16 @@ p10 =
     gives (on (fileWith four "II|4|123456789|A||20220901||TESTV|LA|PO|50|0.5|ML|GSK|L2||||||||" seven) (zeros 38)) (foundAs 1) (zeros 38)
     (finding 6 9 9 ++ zeros 7)
 
--- "P11 one slot, live X; a file deletes X and adds Y: accepted."
+-- "P11 one slot, live X; a file deletes X and adds Y: accepted.", whichever stands first
 unfoldable pub p11 : Bool
 p11 =
     gives
     (on (fileWith four "II|4|123456789|D||20220801||TESTV|LA|IM|50|0.5|ML|GSK|L2||||||||" seven) (1 ∷ eventOn "20220801"))
+    (acceptedAs 1 0 1)
+    (1 ∷ eventOn "20220901")
+    (zeros 13)
+    && gives
+    (on (fileWith "II|2|123456789|D||20220801||TESTV|LA|IM|50|0.5|ML|GSK|L1||||||||" six seven) (1 ∷ eventOn "20220801"))
     (acceptedAs 1 0 1)
     (1 ∷ eventOn "20220901")
     (zeros 13)

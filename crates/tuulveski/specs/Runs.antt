@@ -48,7 +48,7 @@ module _ (check : Check) where
   allDeleted ledger [] = []
   allDeleted ledger (c ∷ cs) = deletedBy ledger c ++ allDeleted (leaves ledger c) cs
 
-  -- the last accepted file of a run to add or delete the event added it; so it was before, where none did
+  -- the last accepted file of a run to add or delete the event added it; where none did, as it was before the run
   abbrev pub lastAdded : Event → Bool → Text → List Call → Bool
   lastAdded e was ledger [] = was
   lastAdded e was ledger (c ∷ cs) =
