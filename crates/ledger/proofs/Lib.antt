@@ -1,0 +1,3 @@
+pub mod SlotLaws
+pub mod FormLaws
+pub mod LookLaws
