@@ -1,3 +1,5 @@
+-- The laws of the crate, for its own proofs and for the crates above.
+-- Assumes nothing.
 pub mod Small
 pub mod Facts
 pub mod Members

@@ -1,0 +1,13 @@
+-- `house::Date::of_number` meets its contract.
+-- Assumes nothing.
+use Rattle.house.proofs.DateLaws.{for-day-of}
+use Rattle.house.proofs.Date.of_number.Statement.{statement}
+use Rattle.house.proofs.Date.of_number.Tie as tie
+
+pub of-number-spec : {M : Type 1} → statement M
+of-number-spec =
+    tie.close
+    (tie.spec
+    (λ c. search for-day-of)
+    (λ c. search for-day-of)
+    (λ c. search for-day-of))
