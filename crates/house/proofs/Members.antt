@@ -82,3 +82,11 @@ pub any-in : {A : Type 0} (p : A → Bool) (x : A) (xs : List A) → In x xs →
 any-in p x [] m t = absurd m
 any-in {A} p x (z ∷ xs) (inl e) t = left-of (p z) (any p xs) (subst (λ (w : A). T (p w)) e t)
 any-in p x (z ∷ xs) (inr m) t = right-of (p z) (any p xs) (any-in p x xs m t)
+
+pub all-append : {A : Type 0} (p : A → Bool) (xs ys : List A) → all p (xs ++ ys) ≡ all p xs && all p ys
+all-append p [] ys = refl
+all-append p (x ∷ xs) ys = go (p x) (all-append p xs ys)
+  where
+    go : (b : Bool) → all p (xs ++ ys) ≡ all p xs && all p ys → b && all p (xs ++ ys) ≡ b && all p xs && all p ys
+    go true e = e
+    go false e = refl
