@@ -1,2 +1,5 @@
 pub mod Ranks
 pub mod Order
+pub mod EventLaws
+pub mod MergeLaws
+pub mod SortLaws

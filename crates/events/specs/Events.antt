@@ -6,19 +6,15 @@ use mathlib.Core.List.{List, map}
 use lib.ListN.{drop}
 use Rattle.house.specs.Text.{Text, adjacent, below}
 use Rattle.house.specs.Key.{keyOf}
-use Rattle.lines.specs.Lines.{textAt, fieldOf}
-
--- the text of the line that starts at a place of the file
-unfoldable pub textFrom : Text → ℕ → Text
-textFrom s p = textAt (drop p s) 1
+use Rattle.lines.specs.Lines.{lineOf, fieldOf}
 
 -- the key of the event that a line's text names
 unfoldable pub eventOf : Text → Text
 eventOf t = keyOf (fieldOf t 3) (fieldOf t 6) (fieldOf t 8)
 
--- the key of the event that the line at a place names
+-- the key of the event that the line at a place names: the line that starts at that position of the file
 unfoldable pub eventAt : Text → ℕ → Text
-eventAt s p = eventOf (textFrom s p)
+eventAt s p = eventOf (lineOf (drop p s) .text)
 
 -- the events of the lines at these places
 unfoldable pub eventsAt : Text → List ℕ → List Text

@@ -111,22 +111,6 @@ module _ (s : Text) (i : ℕ) (x : Bool) (inv : x ≡ all slotForm (drop i (slot
 
 pub ruleset for-all-formed = (needs, formed-on, formed-not, formed-end)
 
--- is_below
-module _ (a b : Text) (o : Order) (p : o ≡ orderOf a b) where
-  pub below-less : o ≡ Less → true ≡ below a b
-  unfolding below
-  below-less e = rw (← p, e)
-
-  pub below-same : o ≡ Same → false ≡ below a b
-  unfolding below
-  below-same e = rw (← p, e)
-
-  pub below-more : o ≡ More → false ≡ below a b
-  unfolding below
-  below-more e = rw (← p, e)
-
-pub ruleset for-is-below = (needs, below-less, below-same, below-more)
-
 -- may_follow
 module _ (s t : Text) (g : Bool) (p : g ≡ isLiveSlot t) where
   pub follow-free : g ≡ false → true ≡ slotFollows s t

@@ -1,3 +1,11 @@
 pub mod SlotLaws
 pub mod FormLaws
 pub mod LookLaws
+pub mod WriteLaws
+pub mod AmongLaws
+pub mod GapLaws
+pub mod BackLaws
+pub mod LiveLaws
+pub mod FoundLaws
+pub mod SizeLaws
+pub mod UpdateLaws

@@ -47,3 +47,26 @@ module _ (s : Text) (i : ℕ) (h : i < length s / 38) where
   slot-part-size = ap length slot-part ∙ slot-size
 
 pub ruleset for-slot = (needs, slot-fits, slot-part, slot-part-size)
+
+-- a slot written over
+paste-shift : (s t : Text) (q : ℕ) → paste s (38 + q) t 38 ≡ take 38 s ++ paste (drop 38 s) q t 38
+paste-shift s t q = simp (take-add 38 q s, append-assoc, drop-drop, add-assoc)
+
+chop-paste : (n i : ℕ) (s t : Text) → i < n → n * 38 ≤ length s → length t ≡ 38 → chop n (paste s (i * 38) t 38) ≡ set (chop n s) i t
+unfolding chop
+chop-paste zero i s t h k e = absurd (not-suc-le-zero h)
+chop-paste (suc n) zero s t h k e =
+    let w : take 38 t ≡ t = take-all 38 t (omega arith) in
+    rw (w, take-at t (drop 38 s) 38 e, drop-at t (drop 38 s) 38 e)
+chop-paste (suc n) (suc i) s t h k e =
+    let m : suc i * 38 ≡ 38 + i * 38 = omega arith in
+    let f : length (take 38 s) ≡ 38 = length-take-le 38 s (omega arith) in
+    let p : paste s (suc i * 38) t 38 ≡ take 38 s ++ paste (drop 38 s) (i * 38) t 38 = rw m (paste-shift s t (i * 38)) in
+    let r : chop n (paste (drop 38 s) (i * 38) t 38) ≡ set (chop n (drop 38 s)) i t = chop-paste n i (drop 38 s) t (le-of-suc-le-suc h) (omega (arith, length-drop 38 s)) e in
+    rw (p, take-at (take 38 s) (paste (drop 38 s) (i * 38) t 38) 38 f, drop-at (take 38 s) (paste (drop 38 s) (i * 38) t 38) 38 f, r)
+
+pub slots-paste : (s t : Text) (i : ℕ) → i < length s / 38 → length t ≡ 38 → slots (paste s (i * 38) t 38) ≡ set (slots s) i t
+unfolding slots slotsIn
+slots-paste s t i h e =
+    let n : length (paste s (i * 38) t 38) ≡ length s = length-paste s (i * 38) t 38 (omega arith) (omega arith) in
+    rw n (chop-paste (length s / 38) i s t h (omega arith) e)

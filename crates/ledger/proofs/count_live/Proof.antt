@@ -8,7 +8,7 @@ use Rattle.ledger.proofs.count_live.Statement.{statement}
 use Rattle.ledger.proofs.count_live.Tie as tie
 
 abbrev Inv-loop : tie.InvT-loop
-Inv-loop ledger n live₀ i₀ live i = (live ≤ i) × (length (those isLiveSlot (slots ledger)) ≡ live + length (those isLiveSlot (drop i (slots ledger))))
+Inv-loop ledger n live₀ i₀ live i = (live ≤ i) × (i ≤ n) × (length (those isLiveSlot (slots ledger)) ≡ live + length (those isLiveSlot (drop i (slots ledger))))
 
 abbrev μ-loop : tie.MeasureT-loop
 μ-loop ledger n live₀ i₀ live i = n - i
@@ -29,4 +29,4 @@ count-live-spec =
     (λ c. search for-count-live)
     (λ c. search for-count-live)
     (λ c. search for-count-live)
-    (λ c. search for-count-live))
+    (λ c. (search for-count-live, search for-count-live)))
