@@ -89,7 +89,7 @@ startOf e = take (startWidth (e .kind)) (datesOf e)
 unfoldable pub endOf : Entry → Text
 endOf e = drop (startWidth (e .kind)) (datesOf e)
 
--- Forms: two digits or a padded code; a start is a date, an end a date or open
+-- Forms: two digits or a padded code; "A start is a date and may exceed its end; that code is then never in force."
 
 unfoldable pub firstForm : ℕ → Text → Bool
 firstForm k t = cond (eqb k reason) (digits t) (isPadded t)
@@ -150,3 +150,7 @@ isEntry k code e = eqb (e .kind) k && same (codeOf e) code
 -- the code is known: an entry has it
 unfoldable pub listed : List Entry → ℕ → Text → Bool
 listed es k code = any (isEntry k code) es
+
+-- and is in force on a day: such an entry is
+unfoldable pub listedOn : List Entry → ℕ → ℕ → Text → Bool
+listedOn es d k code = any (λ (e : Entry). isEntry k code e && inForce d e) es

@@ -9,3 +9,5 @@ pub mod LiveLaws
 pub mod FoundLaws
 pub mod SizeLaws
 pub mod UpdateLaws
+pub mod EventLaws
+pub mod HeldLaws
