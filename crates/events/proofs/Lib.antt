@@ -3,3 +3,5 @@ pub mod Order
 pub mod EventLaws
 pub mod MergeLaws
 pub mod SortLaws
+pub mod SortedLaws
+pub mod OneAnswer

@@ -17,11 +17,11 @@ use Rattle.house.specs.declared.Order.the-variants.{Less, Same, More}
 use Rattle.house.specs.Text.{Text, orderOf, below}
 use Rattle.house.proofs.Small.{clash, Three, lt, eq, gt, three}
 use Rattle.house.proofs.OrderAlgebra.{flip, flipped, same-eq}
-use Rattle.house.proofs.Decisions.{less-below, below-trans}
+use Rattle.house.proofs.Decisions.{less-below}
 use Rattle.house.proofs.Suffix.{drop-here, drop-past}
 use Rattle.events.specs.Events.{eventAt, eventsAt}
 use Rattle.events.specs.Inside.{Lt, Le, All, From, Over, Asc}
-use Rattle.events.proofs.Order.{all-map}
+use Rattle.events.proofs.Order.{over-down}
 use Rattle.ledger.specs.Ledger.{slots, liveSlot, isAmong, less}
 use Rattle.ledger.specs.Inside.{whole, slotsFor, headOrder}
 use Rattle.ledger.proofs.SlotLaws.{length-slots}
@@ -61,7 +61,7 @@ module _ (x : Text) where
   head-over [] a e = among-none x [] tt
   head-over (y ∷ ys) a e =
       let h : Lt x y = less-below x y (flip y x ∙ ap flipped e) in
-      among-none x (y ∷ ys) (h, all-map (λ (z : Text). Lt y z) (λ (z : Text). Lt x z) ys (λ z k. below-trans x y z h k) (a .0))
+      among-none x (y ∷ ys) (h, over-down whole x y ys h (a .0))
 
 module _ (f : Text) (ds : List ℕ) (l₀ : Text) (n : ℕ) where
   pub record Gaps (l : Text) (w r d : ℕ) : Type 0 where
@@ -151,7 +151,7 @@ module _ (f : Text) (ds : List ℕ) (l₀ : Text) (n : ℕ) where
           let t : slotsFor f (drop d ds) ≡ y ∷ D = for-here f ds d (gaps-there z) in
           let h : Lt y s = head-under s y D (ap (λ (E : List Text). headOrder E s) (sym t) ∙ sym eo ∙ z) in
           let under : All (λ (x : Text). Lt y x) (s ∷ drop (r + 1) (take n (slots l₀))) =
-          (h, all-map (λ (x : Text). Lt s x) (λ (x : Text). Lt y x) (drop (r + 1) (take n (slots l₀))) (λ x k. below-trans y s x h k) (asc-here .0)) in
+          (h, over-down whole y s (drop (r + 1) (take n (slots l₀))) h (asc-here .0)) in
           record {
             size = g .size;
             fits = g .fits;

@@ -11,3 +11,4 @@ pub mod SizeLaws
 pub mod UpdateLaws
 pub mod EventLaws
 pub mod HeldLaws
+pub mod OneAnswer

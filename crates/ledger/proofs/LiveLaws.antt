@@ -16,27 +16,18 @@ use Rattle.house.proofs.Decisions.{below-trans}
 use Rattle.events.specs.Events.{ascends}
 use Rattle.events.specs.Sorted.{putIn, place}
 use Rattle.events.specs.Inside.{Lt, Over, Asc}
-use Rattle.events.proofs.Order.{all-map}
+use Rattle.events.proofs.Order.{over-down}
+use Rattle.events.proofs.SortedLaws.{ascends-asc}
 use Rattle.ledger.specs.Ledger.{slots, isLiveSlot, slotFollows, liveIn, isAmong, insert, plus, less, liveSlot}
 use Rattle.ledger.specs.Inside.{whole}
 
--- what stands above the first stands above what is below it
-over-down : (x y : Text) (ys : List Text) → Lt x y → Over whole y ys → Over whole x ys
-over-down x y ys h o = all-map (λ (z : Text). Lt y z) (λ (z : Text). Lt x z) ys (λ z k. below-trans x y z h k) o
+-- events that ascend
+map-whole : (es : List Text) → map whole es ≡ es
+map-whole [] = refl
+map-whole (e ∷ es) = ap (λ (l : List Text). e ∷ l) (map-whole es)
 
--- a test that holds of each and the next holds of all
-chained-asc : (e : Text) (es : List Text) → chained below e es ≡ true → Asc whole (e ∷ es)
-chained-asc e [] h = (tt, tt)
-chained-asc e (d ∷ es) h =
-    let p = both (below e d) (chained below d es) h in
-    let r = chained-asc d es (p .1) in
-    let l : Lt e d = of-true (below e d) (p .0) in
-    ((l, over-down e d es l (r .0)), r)
-
-pub ascends-asc : (es : List Text) → ascends es ≡ true → Asc whole es
-unfolding ascends
-ascends-asc [] h = tt
-ascends-asc (e ∷ es) h = chained-asc e es h
+pub events-asc : (es : List Text) → ascends es ≡ true → Asc whole es
+events-asc es h = ascends-asc whole es (ap ascends (map-whole es) ∙ h)
 
 -- slots in order
 free-rest : (x : Text) (ts : List Text) → isLiveSlot x ≡ false → chained slotFollows x ts ≡ true → those isLiveSlot ts ≡ []
@@ -61,7 +52,7 @@ live-rest x (t ∷ ts) h = go (isLiveSlot t) refl h (live-rest t ts)
         let p = both (isLiveSlot x && below x t) (chained slotFollows t ts) k in
         let l : Lt x t = of-true (below x t) (both (isLiveSlot x) (below x t) (p .0) .1) in
         let r = rec (p .1) in
-        (ap (λ (l : List Text). t ∷ l) (r .0), ((l, over-down x t (those isLiveSlot ts) l (r .1 .0)), r .1))
+        (ap (λ (l : List Text). t ∷ l) (r .0), ((l, over-down whole x t (those isLiveSlot ts) l (r .1 .0)), r .1))
     go false e k rec = rw (free-rest t ts e k) (refl, (tt, tt))
 
 pub in-order : (ts : List Text) → adjacent slotFollows ts ≡ true → (take (length (those isLiveSlot ts)) ts ≡ those isLiveSlot ts) × Asc whole (those isLiveSlot ts)

@@ -1,7 +1,7 @@
 -- What each need of the functions that test and make an update asks.
 -- Assumes nothing.
 use mathlib.Core.Path.{_≡_, refl, sym, ap, _∙_, subst}
-use mathlib.Core.Bool.{Bool, true, false, not, cond, _&&_}
+use mathlib.Core.Bool.{Bool, true, false, not, cond, _&&_, _||_}
 use mathlib.Core.List.{List, [], _∷_, _++_, map}
 use Prim.Native.Nat.{ℕ, zero, suc, _+_, _*_, _-_, _/_, _%_, _≤_, _<_}
 use native.Mathlib.Nat.{not-suc-le-zero, le-of-suc-le-suc}
@@ -11,19 +11,20 @@ use borrow.Author.Tests.{eq-eqb, ne-eqb, le-leb, leb-true, leb-false}
 use lib.Dec.{eqb, leb}
 use lib.ListN.{length, take, drop, getD, replicate, length-map, length-append}
 use lib.Seq.{take-at, take-add}
-use Rattle.house.specs.Text.{Text, those, count, adjacent, joined}
-use Rattle.house.proofs.Small.{clash, both, Three, lt, eq, gt, three}
+use Rattle.house.specs.Text.{Text, those, count, adjacent, joined, below, same}
+use Rattle.house.proofs.Small.{both}
 use Rattle.house.proofs.Suffix.{drop-here, drop-past}
 use Rattle.events.specs.Events.{eventAt, eventsAt, ascends}
-use Rattle.events.specs.Sorted.{place}
+use Rattle.events.specs.Sorted.{putIn, place}
 use Rattle.events.specs.Inside.{Asc, Up}
-use Rattle.events.proofs.Order.{up-asc, asc-those, length-place}
-use Rattle.ledger.specs.Ledger.{slotsIn, chop, slots, isLiveSlot, slotFollows, liveIn, isAmong, foundIn, plus, less, eventsAfter, liveSlot, ledgerWith, isFit, updated}
+use Rattle.events.proofs.Order.{up-asc, asc-those, length-place, place-sorted}
+use Rattle.events.proofs.SortedLaws.{keys-placed}
+use Rattle.ledger.specs.Ledger.{slotsIn, chop, slots, isLiveSlot, slotFollows, ledgerOk, liveIn, isAmong, foundIn, plus, less, eventsAfter, liveSlot, ledgerWith, isFit, updated}
 use Rattle.ledger.specs.Inside.{whole, slotsFor, hasRoom, Fit}
 use Rattle.ledger.proofs.SlotLaws.{length-slots}
 use Rattle.ledger.proofs.BackLaws.{length-for}
-use Rattle.ledger.proofs.LiveLaws.{ascends-asc, asc-live, less-live, place-live, joined-live}
-use Rattle.ledger.proofs.FoundLaws.{live-length, live-fits, live-first, live-up, found-among}
+use Rattle.ledger.proofs.LiveLaws.{events-asc, asc-live, less-live, place-live, plus-place, joined-live}
+use Rattle.ledger.proofs.FoundLaws.{live-length, live-first, live-up, found-among, ok-whole, ok-order}
 use Rattle.ledger.proofs.SizeLaws.{after-length}
 
 -- is_listed_live
@@ -87,7 +88,7 @@ room-after l f gs ds o d =
     let c : count (foundIn l (length (those isLiveSlot (slots l)))) (eventsAt f ds) ≡ count (isAmong (liveIn l)) (eventsAt f ds) =
     count-same (foundIn l (length (those isLiveSlot (slots l)))) (isAmong (liveIn l)) (eventsAt f ds) (λ e. found-among l o e (length (those isLiveSlot (slots l))) (sym n)) in
     let a : length (eventsAfter (liveIn l) (eventsAt f gs) (eventsAt f ds)) + count (isAmong (liveIn l)) (eventsAt f ds) ≡ length (liveIn l) + length (eventsAt f gs) =
-    after-length (liveIn l) (eventsAt f gs) (eventsAt f ds) (live-up l o) (ascends-asc (eventsAt f ds) d) in
+    after-length (liveIn l) (eventsAt f gs) (eventsAt f ds) (live-up l o) (events-asc (eventsAt f ds) d) in
     let m : length (eventsAt f gs) ≡ length gs = length-at f gs in
     rw c (leb-same (length (those isLiveSlot (slots l)) + length gs) (length l / 38 + count (isAmong (liveIn l)) (eventsAt f ds)) (length (eventsAfter (liveIn l) (eventsAt f gs) (eventsAt f ds))) (length l / 38) (λ h. omega arith) (λ h. omega arith))
 
@@ -143,11 +144,11 @@ module _ (l f : Text) (gs ds : List ℕ) (fit : Fit l f gs ds) (live : ℕ) (el 
 
   pub apply-deletes : Asc whole (slotsFor f ds)
   unfolding slotsFor
-  apply-deletes = asc-live (eventsAt f ds) (ascends-asc (eventsAt f ds) (fit .deleted))
+  apply-deletes = asc-live (eventsAt f ds) (events-asc (eventsAt f ds) (fit .deleted))
 
   pub apply-adds : Up whole (slotsFor f gs)
   unfolding slotsFor
-  apply-adds = up-asc whole (map liveSlot (eventsAt f gs)) (asc-live (eventsAt f gs) (ascends-asc (eventsAt f gs) (fit .added)))
+  apply-adds = up-asc whole (map liveSlot (eventsAt f gs)) (asc-live (eventsAt f gs) (events-asc (eventsAt f gs) (fit .added)))
 
   module _ (m : Text) (k : ℕ) (lm : length m ≡ length l) (ek : k ≡ length (less (slotsFor f ds) (take live (slots l)))) (em : take k (slots m) ≡ less (slotsFor f ds) (take live (slots l))) where
     kept : less (slotsFor f ds) (take live (slots l)) ≡ map liveSlot (less (eventsAt f ds) (liveIn l))
@@ -216,3 +217,58 @@ module _ (l f : Text) (gs ds : List ℕ) (r : Bool) (er : r ≡ isFit l f gs ds)
   update-kept z = rw (← er, z)
 
 pub ruleset for-update = (needs, fit-is, update-yes, update-no, update-done, update-kept)
+
+-- Laws for the crates above
+
+module _ (l f : Text) (gs ds : List ℕ) where
+  -- a well-formed ledger, events that ascend, and room: the update is fit
+  pub fit-ok : ledgerOk l ≡ true → ascends (eventsAt f gs) ≡ true → ascends (eventsAt f ds) ≡ true → length (eventsAfter (liveIn l) (eventsAt f gs) (eventsAt f ds)) ≤ slotsIn l → isFit l f gs ds ≡ true
+  unfolding isFit
+  fit-ok ok a d r = rw (ok-whole l ok, ok-order l ok, a, d, le-leb _ _ r)
+
+  -- the room by numbers: live and added against slots and those of the deleted that are live
+  pub fit-numbers : ledgerOk l ≡ true → ascends (eventsAt f gs) ≡ true → ascends (eventsAt f ds) ≡ true → length (liveIn l) + length gs ≤ slotsIn l + count (isAmong (liveIn l)) (eventsAt f ds) → isFit l f gs ds ≡ true
+  fit-numbers ok a d r =
+      fit-ok ok a d
+      (omega (arith, after-length (liveIn l) (eventsAt f gs) (eventsAt f ds) (live-up l (ok-order l ok)) (events-asc (eventsAt f ds) d), length-at f gs))
+
+  -- and then the ledger is the definition's
+  pub updated-fit : isFit l f gs ds ≡ true → updated l f gs ds ≡ ledgerWith (length l) (eventsAfter (liveIn l) (eventsAt f gs) (eventsAt f ds))
+  unfolding updated
+  updated-fit h = rw h
+
+-- to sort the places first changes nothing
+among-put : (e x : Text) (es : List Text) → isAmong (putIn whole x es) e ≡ isAmong (x ∷ es) e
+unfolding isAmong putIn
+among-put e x [] = refl
+among-put e x (y ∷ ys) = go (below y x) (among-put e x ys)
+  where
+    swap : (p q r : Bool) → (q || (p || r)) ≡ (p || (q || r))
+    swap true true r = refl
+    swap true false r = refl
+    swap false q r = refl
+
+    go : (b : Bool) → isAmong (putIn whole x ys) e ≡ isAmong (x ∷ ys) e → isAmong (cond b (y ∷ putIn whole x ys) (x ∷ (y ∷ ys))) e ≡ isAmong (x ∷ (y ∷ ys)) e
+    go true r = ap (λ (b : Bool). same e y || b) r ∙ swap (same e x) (same e y) (isAmong ys e)
+    go false r = refl
+
+among-sorted : (e : Text) (es : List Text) → isAmong (place whole es []) e ≡ isAmong es e
+unfolding place isAmong
+among-sorted e [] = refl
+among-sorted e (x ∷ xs) = among-put e x (place whole xs []) ∙ ap (λ (b : Bool). same e x || b) (among-sorted e xs)
+
+those-same : {A : Type 0} (p q : A → Bool) (xs : List A) → ((x : A) → p x ≡ q x) → those p xs ≡ those q xs
+those-same p q [] h = refl
+those-same p q (x ∷ xs) h = rw (h x, those-same p q xs h)
+
+pub after-sorted : (f : Text) (live : List Text) (gs ds : List ℕ)
+    → eventsAfter live (eventsAt f (place (eventAt f) gs [])) (eventsAt f (place (eventAt f) ds [])) ≡ eventsAfter live (eventsAt f gs) (eventsAt f ds)
+unfolding eventsAfter eventsAt less
+after-sorted f live gs ds =
+    ap (λ (b : List Text). plus (map (eventAt f) (place (eventAt f) gs [])) b)
+    (those-same (λ (e : Text). not (isAmong (map (eventAt f) (place (eventAt f) ds [])) e)) (λ (e : Text). not (isAmong (map (eventAt f) ds) e)) live
+    (λ e. ap not (ap (λ (es : List Text). isAmong es e) (keys-placed (eventAt f) ds []) ∙ among-sorted e (map (eventAt f) ds))))
+    ∙ plus-place (map (eventAt f) (place (eventAt f) gs [])) (less (map (eventAt f) ds) live)
+    ∙ ap (λ (a : List Text). place whole a (less (map (eventAt f) ds) live)) (keys-placed (eventAt f) gs [])
+    ∙ place-sorted whole (map (eventAt f) gs) (less (map (eventAt f) ds) live)
+    ∙ sym (plus-place (map (eventAt f) gs) (less (map (eventAt f) ds) live))

@@ -1,3 +1,5 @@
+-- `ledger::all_formed` meets its contract.
+-- Assumes nothing.
 use Rattle.ledger.proofs.FormLaws.{for-all-formed}
 use Prim.Native.Nat.{_-_}
 use mathlib.Core.Path.{_≡_}

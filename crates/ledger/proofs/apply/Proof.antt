@@ -1,3 +1,5 @@
+-- `ledger::apply` meets its contract.
+-- Assumes nothing.
 use Rattle.ledger.proofs.UpdateLaws.{for-apply}
 use Rattle.ledger.proofs.apply.Statement.{statement}
 use Rattle.ledger.proofs.apply.Tie as tie

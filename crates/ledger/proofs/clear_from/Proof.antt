@@ -1,3 +1,5 @@
+-- `ledger::clear_from` meets its contract.
+-- Assumes nothing.
 use Rattle.ledger.proofs.WriteLaws.{for-clear-from}
 use Prim.Native.Nat.{_-_, _≤_}
 use mathlib.Core.Path.{_≡_}

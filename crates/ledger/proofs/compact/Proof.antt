@@ -1,3 +1,5 @@
+-- `ledger::compact` meets its contract.
+-- Assumes nothing.
 use Rattle.ledger.proofs.GapLaws.{for-compact}
 use Prim.Native.Nat.{_-_, _+_}
 use borrow.Author.Needs.{needs}
@@ -35,9 +37,9 @@ compact-spec =
     (λ c. search for-compact)
     (λ c. search for-compact)
     (λ c.
-      let q = c .before .before in
-      let e = q .before .before .before .before in
-      let h = e .before .before .before in
-      gaps-kept _ _ _ _ _ _ _ _ (h .before .loop .inv) (h .loop-test .taken) _ (e .before .read-slot .ensures) _ (e .delete-stands .ensures) _ (search needs) (q .write-slot .ensures) (search needs))
+    let q = c .before .before in
+    let e = q .before .before .before .before in
+    let h = e .before .before .before in
+    gaps-kept _ _ _ _ _ _ _ _ (h .before .loop .inv) (h .loop-test .taken) _ (e .before .read-slot .ensures) _ (e .delete-stands .ensures) _ (search needs) (q .write-slot .ensures) (search needs))
     (λ c. search for-compact)
     (λ c. (search for-compact, search for-compact)))

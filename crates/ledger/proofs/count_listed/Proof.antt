@@ -1,3 +1,5 @@
+-- `ledger::count_listed` meets its contract.
+-- Assumes nothing.
 use Rattle.ledger.proofs.UpdateLaws.{for-count-listed}
 use borrow.Author.Needs.{needs}
 use Rattle.ledger.proofs.UpdateLaws.{listed-start}

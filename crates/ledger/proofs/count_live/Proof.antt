@@ -1,3 +1,5 @@
+-- `ledger::count_live` meets its contract.
+-- Assumes nothing.
 use Rattle.ledger.proofs.FormLaws.{for-count-live}
 use Prim.Native.Nat.{_-_, _≤_, _+_}
 use mathlib.Core.Path.{_≡_}

@@ -1,3 +1,5 @@
+-- `ledger::delete_stands` meets its contract.
+-- Assumes nothing.
 use Rattle.ledger.proofs.WriteLaws.{for-delete-stands}
 use Rattle.ledger.proofs.delete_stands.Statement.{statement}
 use Rattle.ledger.proofs.delete_stands.Tie as tie

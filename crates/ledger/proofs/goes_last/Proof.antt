@@ -1,3 +1,5 @@
+-- `ledger::goes_last` meets its contract.
+-- Assumes nothing.
 use Rattle.ledger.proofs.WriteLaws.{for-goes-last}
 use Rattle.ledger.proofs.goes_last.Statement.{statement}
 use Rattle.ledger.proofs.goes_last.Tie as tie

@@ -1,3 +1,5 @@
+-- `ledger::has_form` meets its contract.
+-- Assumes nothing.
 use Rattle.ledger.proofs.FormLaws.{for-has-form}
 use Rattle.ledger.proofs.has_form.Statement.{statement}
 use Rattle.ledger.proofs.has_form.Tie as tie

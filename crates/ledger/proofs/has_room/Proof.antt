@@ -1,3 +1,5 @@
+-- `ledger::has_room` meets its contract.
+-- Assumes nothing.
 use Rattle.ledger.proofs.UpdateLaws.{for-has-room}
 use Rattle.ledger.proofs.has_room.Statement.{statement}
 use Rattle.ledger.proofs.has_room.Tie as tie

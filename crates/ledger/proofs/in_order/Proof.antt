@@ -1,3 +1,5 @@
+-- `ledger::in_order` meets its contract.
+-- Assumes nothing.
 use Rattle.ledger.proofs.FormLaws.{for-in-order}
 use Prim.Native.Nat.{_-_, _≤_}
 use mathlib.Core.Path.{_≡_}

@@ -1,3 +1,5 @@
+-- `ledger::is_event` meets its contract.
+-- Assumes nothing.
 use Rattle.ledger.proofs.FormLaws.{for-is-event}
 use Rattle.ledger.proofs.is_event.Statement.{statement}
 use Rattle.ledger.proofs.is_event.Tie as tie

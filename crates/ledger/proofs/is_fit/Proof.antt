@@ -1,3 +1,5 @@
+-- `ledger::is_fit` meets its contract.
+-- Assumes nothing.
 use Rattle.ledger.proofs.UpdateLaws.{for-is-fit}
 use Rattle.ledger.proofs.is_fit.Statement.{statement}
 use Rattle.ledger.proofs.is_fit.Tie as tie

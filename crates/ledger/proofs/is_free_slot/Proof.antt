@@ -1,3 +1,5 @@
+-- `ledger::is_free_slot` meets its contract.
+-- Assumes nothing.
 use Rattle.ledger.proofs.FormLaws.{for-free-slot}
 use Prim.Native.Nat.{_-_}
 use mathlib.Core.Path.{_≡_}

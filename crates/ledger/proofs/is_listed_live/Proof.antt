@@ -1,3 +1,5 @@
+-- `ledger::is_listed_live` meets its contract.
+-- Assumes nothing.
 use Rattle.ledger.proofs.UpdateLaws.{for-is-listed-live}
 use Rattle.ledger.proofs.is_listed_live.Statement.{statement}
 use Rattle.ledger.proofs.is_listed_live.Tie as tie

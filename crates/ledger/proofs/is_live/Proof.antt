@@ -1,3 +1,5 @@
+-- `ledger::is_live` meets its contract.
+-- Assumes nothing.
 use Rattle.ledger.proofs.LookLaws.{for-is-live}
 use Prim.Native.Nat.{_-_, _≤_, _/_}
 use lib.ListN.{length}

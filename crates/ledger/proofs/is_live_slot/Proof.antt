@@ -1,3 +1,5 @@
+-- `ledger::is_live_slot` meets its contract.
+-- Assumes nothing.
 use Rattle.ledger.proofs.FormLaws.{for-live-slot}
 use Rattle.ledger.proofs.is_live_slot.Statement.{statement}
 use Rattle.ledger.proofs.is_live_slot.Tie as tie

@@ -1,3 +1,5 @@
+-- `ledger::listed_slot` meets its contract.
+-- Assumes nothing.
 use Rattle.ledger.proofs.WriteLaws.{for-listed-slot}
 use Rattle.ledger.proofs.listed_slot.Statement.{statement}
 use Rattle.ledger.proofs.listed_slot.Tie as tie

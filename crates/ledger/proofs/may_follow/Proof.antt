@@ -1,3 +1,5 @@
+-- `ledger::may_follow` meets its contract.
+-- Assumes nothing.
 use Rattle.ledger.proofs.FormLaws.{for-may-follow}
 use Rattle.ledger.proofs.may_follow.Statement.{statement}
 use Rattle.ledger.proofs.may_follow.Tie as tie

@@ -1,3 +1,5 @@
+-- `ledger::merge_in` meets its contract.
+-- Assumes nothing.
 use Rattle.ledger.proofs.BackLaws.{for-merge-in}
 use mathlib.Core.Path.{_≡_}
 use Prim.Native.Nat.{_-_, _+_}

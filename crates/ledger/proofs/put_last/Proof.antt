@@ -1,3 +1,5 @@
+-- `ledger::put_last` meets its contract.
+-- Assumes nothing.
 use Rattle.ledger.proofs.WriteLaws.{for-put-last}
 use Rattle.ledger.proofs.put_last.Statement.{statement}
 use Rattle.ledger.proofs.put_last.Tie as tie

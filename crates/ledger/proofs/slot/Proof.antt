@@ -1,3 +1,5 @@
+-- `ledger::slot` meets its contract.
+-- Assumes nothing.
 use Rattle.ledger.proofs.SlotLaws.{for-slot}
 use Rattle.ledger.proofs.slot.Statement.{statement}
 use Rattle.ledger.proofs.slot.Tie as tie

@@ -1,3 +1,5 @@
+-- `ledger::slot_of` meets its contract.
+-- Assumes nothing.
 use Rattle.ledger.proofs.WriteLaws.{for-slot-of}
 use Prim.Native.Nat.{_-_, _≤_}
 use mathlib.Core.Path.{_≡_}

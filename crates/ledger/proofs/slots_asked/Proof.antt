@@ -1,3 +1,5 @@
+-- `ledger::slots_asked` meets its contract.
+-- Assumes nothing.
 use Rattle.ledger.proofs.LookLaws.{for-slots-asked}
 use Rattle.ledger.proofs.slots_asked.Statement.{statement}
 use Rattle.ledger.proofs.slots_asked.Tie as tie

@@ -1,3 +1,5 @@
+-- `ledger::stands` meets its contract.
+-- Assumes nothing.
 use Rattle.ledger.proofs.LookLaws.{for-stands}
 use Rattle.ledger.proofs.stands.Statement.{statement}
 use Rattle.ledger.proofs.stands.Tie as tie

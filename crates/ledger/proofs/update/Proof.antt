@@ -1,3 +1,5 @@
+-- `ledger::update` meets its contract.
+-- Assumes nothing.
 use Rattle.ledger.proofs.UpdateLaws.{for-update}
 use Rattle.ledger.proofs.update.Statement.{statement}
 use Rattle.ledger.proofs.update.Tie as tie

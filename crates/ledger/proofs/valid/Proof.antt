@@ -1,3 +1,5 @@
+-- `ledger::valid` meets its contract.
+-- Assumes nothing.
 use Rattle.ledger.proofs.FormLaws.{for-valid}
 use Rattle.ledger.proofs.valid.Statement.{statement}
 use Rattle.ledger.proofs.valid.Tie as tie

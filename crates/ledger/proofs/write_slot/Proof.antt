@@ -1,3 +1,5 @@
+-- `ledger::write_slot` meets its contract.
+-- Assumes nothing.
 use Rattle.ledger.proofs.WriteLaws.{for-write-slot}
 use Prim.Native.Nat.{_-_, _≤_, _*_}
 use mathlib.Core.Path.{_≡_}
