@@ -1,1 +1,225 @@
-// The code book.
+// The code book: a reader of its entries, whether it is well formed, and what it says of a code on a day.
+use house::Date;
+use house::Dated;
+use house::Order;
+ghost use mathlib.Core.Path.{_≡_};
+ghost use mathlib.Core.Bool.{true};
+ghost use Prim.Native.Nat.{_<_, _≤_, _+_, _-_, _*_};
+ghost use lib.ListN.{length, take, drop};
+ghost use Rattle.house.specs.Text.{orderOf};
+ghost use Rattle.book.specs.Book.{firstWidth, secondWidth, startWidth, codeWidth, bodyWidth, firstForm, secondForm, codeForm, startForm, datesForm, bodyForm, readAt, validOf};
+ghost use Rattle.book.specs.LookUp.{sectionStart, countIn, placeOf, orderAt, fits, foundIn, inForceAt, standingIn};
+ghost use Rattle.book.specs.Inside.{bodyFollows, stepLen, RunIs, startHolds, endHolds, datesHold, bodyHolds, codePadded};
+
+// Widths: "a body whose length the kind fixes".
+
+// The bytes of an entry's code, or of the first of two.
+fn first_width(k: u8) -> usize
+    ensures { λ r. ⌜ r ≡ firstWidth k ⌝ }
+    ensures { λ r. ⌜ r ≤ 20 ⌝ }
+{
+    match k {
+        1 => 20,
+        2 => 20,
+        3 => 2,
+        4 => 3,
+        5 => 4,
+        6 => 3,
+        7 => 20,
+        8 => 20,
+        _ => 0,
+    }
+}
+
+// The bytes of the second code of a pair.
+fn second_width(k: u8) -> usize
+    ensures { λ r. ⌜ r ≡ secondWidth k ⌝ }
+    ensures { λ r. ⌜ r ≤ 20 ⌝ }
+{
+    match k {
+        7 => 2,
+        8 => 20,
+        _ => 0,
+    }
+}
+
+// The bytes of an entry's start: only a vaccine has one.
+fn start_width(k: u8) -> usize
+    ensures { λ r. ⌜ r ≡ startWidth k ⌝ }
+    ensures { λ r. ⌜ r ≤ 8 ⌝ }
+{
+    if k == 1 { Date::WIDTH } else { 0 }
+}
+
+// The bytes of an entry's code, both codes of a pair.
+fn code_width(k: u8) -> usize
+    ensures { λ r. ⌜ r ≡ codeWidth k ⌝ }
+    ensures { λ r. ⌜ r ≤ 40 ⌝ }
+{
+    first_width(k) + second_width(k)
+}
+
+// The bytes of an entry's body: its code, its start, its end.
+fn body_width(k: u8) -> usize
+    ensures { λ r. ⌜ r ≡ bodyWidth k ⌝ }
+    ensures { λ r. ⌜ r ≤ 56 ⌝ }
+{
+    code_width(k) + start_width(k) + Date::WIDTH
+}
+
+// The reader.
+
+// A position in a book.
+pub struct Position {
+    pub at: usize,
+}
+
+// What stands at a position: a whole entry of a known kind, with where its body starts and the next position; the end; or neither.
+pub enum Read {
+    Entry {
+        kind: u8,
+        body: usize,
+        next: Position,
+    },
+    End,
+    Malformed,
+}
+
+impl Position {
+    // Reads the entry at this position.
+    pub fn read(self, book: &[u8]) -> Read
+        ensures { λ r. ⌜ r ≡ readAt (self .at) (drop (self .at) (now (book .entry))) ⌝ }
+    {
+        let at = self.at;
+        if book.len() <= at {
+            return Read::End;
+        }
+        let kind = book[at];
+        if kind < 1 {
+            return Read::Malformed;
+        }
+        if 8 < kind {
+            return Read::Malformed;
+        }
+        let body = at + 1;
+        let w = body_width(kind);
+        if book.len() - body < w {
+            return Read::Malformed;
+        }
+        Read::Entry {
+            kind,
+            body,
+            next: Position { at: body + w },
+        }
+    }
+}
+
+// Forms.
+
+// Whether a code, or the first of two, has its form: a reason two digits, any other a padded code.
+fn first_ok(k: u8, t: &[u8]) -> bool
+    ensures { λ r. ⌜ r ≡ firstForm k (now (t .entry)) ⌝ }
+{
+    if k == 3 {
+        house::all_digits(t)
+    } else {
+        house::is_padded(t)
+    }
+}
+
+// Whether the second code of a pair has its form.
+fn second_ok(k: u8, t: &[u8]) -> bool
+    ensures { λ r. ⌜ r ≡ secondForm k (now (t .entry)) ⌝ }
+{
+    match k {
+        7 => house::all_digits(t),
+        8 => house::is_padded(t),
+        _ => true,
+    }
+}
+
+// Whether the code of an entry has its form, both codes of a pair.
+fn code_ok(k: u8, code: &[u8]) -> bool
+    requires { ⌜ length (now code) ≡ codeWidth k ⌝ }
+    ensures { λ r. ⌜ r ≡ codeForm k (now (code .entry)) ⌝ }
+{
+    let a = first_width(k);
+    if first_ok(k, &code[..a]) {
+        second_ok(k, &code[a..])
+    } else {
+        false
+    }
+}
+
+// Whether the start of an entry is a date, where its kind has one.
+fn start_ok(k: u8, t: &[u8]) -> bool
+    ensures { λ r. ⌜ r ≡ startForm k (now (t .entry)) ⌝ }
+{
+    if k == 1 {
+        let d = Date::of(t);
+        match d {
+            Dated::Day(_) => true,
+            Dated::NoDate => false,
+        }
+    } else {
+        true
+    }
+}
+
+// Whether the start and the end of an entry have their form.
+fn dates_ok(k: u8, dates: &[u8]) -> bool
+    requires { ⌜ length (now dates) ≡ startWidth k + 8 ⌝ }
+    ensures { λ r. ⌜ r ≡ datesForm k (now (dates .entry)) ⌝ }
+{
+    let a = start_width(k);
+    if start_ok(k, &dates[..a]) {
+        Date::is_end(&dates[a..])
+    } else {
+        false
+    }
+}
+
+// Whether the body of an entry has its form.
+fn body_ok(k: u8, body: &[u8]) -> bool
+    requires { ⌜ length (now body) ≡ bodyWidth k ⌝ }
+    ensures { λ r. ⌜ r ≡ bodyForm k (now (body .entry)) ⌝ }
+{
+    let w = code_width(k);
+    if code_ok(k, &body[..w]) {
+        dates_ok(k, &body[w..])
+    } else {
+        false
+    }
+}
+
+pub struct Sections {
+    antigens: usize,
+    reasons: usize,
+    manufacturers: usize,
+    dosage_types: usize,
+    reasons_not: usize,
+    with_reason: usize,
+    with_antigen: usize,
+    end: usize,
+}
+
+pub enum Validity {
+    Valid(Sections),
+    Malformed,
+}
+
+pub enum Found {
+    At(Position),
+    Absent,
+}
+
+struct Probed {
+    at: usize,
+    order: Order,
+}
+
+pub enum Standing {
+    Unknown,
+    OutOfForce,
+    InForce,
+}

@@ -1,0 +1,4 @@
+-- The laws of the crate, for its own proofs and for the crates above.
+-- Assumes nothing.
+pub mod WidthLaws
+pub mod FormLaws
