@@ -7,3 +7,6 @@ pub mod FormLaws
 pub mod ReadLaws
 pub mod RunLaws
 pub mod SearchLaws
+pub mod ForceLaws
+pub mod KindLaws
+pub mod StandingLaws
