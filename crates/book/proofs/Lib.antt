@@ -10,3 +10,5 @@ pub mod SearchLaws
 pub mod ForceLaws
 pub mod KindLaws
 pub mod StandingLaws
+pub mod Examples
+pub mod OneAnswer
