@@ -24,7 +24,7 @@ after-drop (suc n) [] = refl
 after-drop (suc n) (b ∷ s) = after-drop n s
 
 pub unroll : (b : ℕ) (u : Text) → entries (b ∷ u) ≡ entryOf b u ∷ entries (drop (bodyWidth b) u)
-unfolding entries entriesAfter
+unfolding entries entriesAfter entryOf
 unroll b u = ap (λ (l : List Entry). entryOf b u ∷ l) (after-drop (bodyWidth b) u)
 
 pub none : entries [] ≡ []

@@ -12,15 +12,13 @@ use lib.Dec.{eqb}
 use lib.ListN.{length, getD, take, drop, set, length-drop}
 use lib.Seq.{drop-drop, getD-set-same, getD-set-other}
 use Rattle.house.specs.Text.{Text, below}
-use Rattle.house.proofs.Small.{clash, Three, lt, eq, gt, three}
+use Rattle.house.proofs.Small.{Three, lt, eq, gt, three}
 use Rattle.house.proofs.Suffix.{drop-here, drop-past}
 use Rattle.book.specs.declared.Position.{Position}
 use Rattle.book.specs.declared.Read.{Read}
 use Rattle.book.specs.declared.Read.the-variants as read
-use Rattle.book.specs.declared.Sections.{Sections}
-use Rattle.book.specs.declared.Validity.{Validity}
 use Rattle.book.specs.declared.Validity.the-variants as validity
-use Rattle.book.specs.Book.{codeWidth, bodyWidth, entryOf, entries, codeOf, bodyForm, isWhole, readAt, bytesBefore, bookOk, sectionsOf, validOf, Sound}
+use Rattle.book.specs.Book.{codeWidth, bodyWidth, entryOf, entries, codeOf, bodyForm, isWhole, readAt, bytesBefore, sectionsOf, validOf}
 use Rattle.book.specs.Inside.{soundFrom, bodyFollows, stepLen, RunIs}
 use Rattle.book.proofs.WidthLaws.{body-parts}
 use Rattle.book.proofs.EntryLaws.{unroll, form-is, sound-none, bytes-none, floor-zero, top-false, Moves, moves, stops}
@@ -206,21 +204,3 @@ module _ (s : Text) where
           (cc (at-is 2 (omega arith) (omega arith), at-is 3 (omega arith) (omega arith), at-is 4 (omega arith) (omega arith), at-is 5 (omega arith) (omega arith), at-is 6 (omega arith) (omega arith), at-is 7 (omega arith) (omega arith), at-is 8 (omega arith) (omega arith), last-is))
 
 pub ruleset for-valid = (needs, upto-start, upto-on, valid-long, valid-not, valid-is)
-
--- what the answer of `valid` says to a caller
-module _ (s : Text) (v : Validity) (e : v ≡ validOf s) where
-  pub valid-sound : (q : Sections) → v ≡ validity.Valid q → Sound s q
-  unfolding validOf
-  valid-sound q h = go (bookOk s) refl (sym e ∙ h)
-    where
-      go : (b : Bool) → bookOk s ≡ b → cond b (validity.Valid (sectionsOf s)) validity.Malformed ≡ validity.Valid q → Sound s q
-      go true p z = record { ok = p; sections = cc }
-      go false p z = clash (cc)
-
-  pub valid-bad : v ≡ validity.Malformed → bookOk s ≡ false
-  unfolding validOf
-  valid-bad h = go (bookOk s) refl (sym e ∙ h)
-    where
-      go : (b : Bool) → bookOk s ≡ b → cond b (validity.Valid (sectionsOf s)) validity.Malformed ≡ validity.Malformed → bookOk s ≡ false
-      go true p z = clash (cc)
-      go false p z = p

@@ -56,7 +56,7 @@ pub ruleset for-codes-fit = (needs, fits-first, fits-second, fits-both)
 
 -- texts that fit, padded
 filled-pad : (w : ℕ) (t : Text) → length t ≤ w → filled w t ≡ pad w t
-unfolding filled pad
+unfolding pad
 filled-pad zero [] l = refl
 filled-pad zero (b ∷ t) l = absurd (not-suc-le-zero l)
 filled-pad (suc w) [] l = ap (λ (t : Text). 32 ∷ t) (filled-pad w [] (omega arith))

@@ -24,8 +24,11 @@ use Rattle.book.specs.declared.Position.{Position}
 use Rattle.book.specs.declared.Sections.{Sections}
 use Rattle.book.specs.declared.Found.{Found}
 use Rattle.book.specs.declared.Found.the-variants.{At, Absent}
+use Rattle.book.specs.declared.Validity.{Validity}
+use Rattle.book.specs.declared.Validity.the-variants.{Valid, Malformed}
+use Rattle.book.specs.declared.Standing.{Standing}
 use Rattle.book.specs.declared.Standing.the-variants.{Unknown, OutOfForce, InForce}
-use Rattle.book.specs.Book.{firstWidth, secondWidth, codeWidth, bodyWidth, Entry, entryOf, entries, codeOf, entryForm, bytesBefore, bookOk, sectionsOf, Sound, filled, codeText, isEntry, listed, listedOn, inForce, standingOf}
+use Rattle.book.specs.Book.{firstWidth, secondWidth, codeWidth, bodyWidth, Entry, entryOf, entries, codeOf, entryForm, bytesBefore, bookOk, bookOf, sectionsOf, validOf, Sound, filled, codeText, isEntry, listed, listedOn, inForce, standingOf}
 use Rattle.book.specs.LookUp.{sectionStart, countIn, placeOf, orderAt, foundAt, fits, foundIn, inForceAt, standingAt, standingIn}
 use Rattle.book.specs.Inside.{soundFrom}
 use Rattle.book.proofs.WidthLaws.{code-parts, body-parts, by-kind}
@@ -168,7 +171,7 @@ module _ (s : Text) (q : Sections) (k n : ℕ) (sec : Section s q k n) (x : Text
     unfolding listed
     hits-known = sec .asks (isEntry k x) (not-kind k x) ∙ any-only k (isEntry k x) n (drop from s) m l others ∙ is-entry k x (row m) kind code
 
-    hits-on : (d : ℕ) → listedOn (entries s) k x d ≡ inForce d (row m)
+    hits-on : (d : ℕ) → listedOn (entries s) d k x ≡ inForce d (row m)
     unfolding listedOn
     hits-on d =
         sec .asks (λ (e : Entry). isEntry k x e && inForce d e) (only d)
@@ -197,7 +200,6 @@ module _ (s : Text) (q : Sections) (k n : ℕ) (sec : Section s q k n) (x : Text
 
 -- texts that do not fit are no code of the book
 filled-long : (w : ℕ) (t : Text) → (w ≤ length (filled w t)) × (length t ≤ length (filled w t))
-unfolding filled
 filled-long zero t = (omega arith, omega arith)
 filled-long (suc w) [] = (omega (arith, filled-long w [] .0), omega arith)
 filled-long (suc w) (b ∷ t) = (omega (arith, filled-long w t .0), omega (arith, filled-long w t .1))
@@ -238,3 +240,70 @@ module _ (s : Text) (q : Sections) (h : Sound s q) (k : ℕ) (a b : Text) (d : �
       go true true p f = let z = section s q h k (leb-true k 8 p) in finds s q k (z .0) (z .1) (codeText k a b) d
       go true false p f = none (not-long f)
       go false v p f = none (λ e w. not-kind k (codeText k a b) e (λ z. omega (arith, form-says e w .1, leb-false k 8 p)))
+
+-- For the crates above
+
+-- what the answer of `valid` says
+module _ (s : Text) (v : Validity) (e : v ≡ validOf s) where
+  pub valid-sound : (q : Sections) → v ≡ Valid q → Sound s q
+  unfolding validOf
+  valid-sound q h = go (bookOk s) refl (sym e ∙ h)
+    where
+      go : (b : Bool) → bookOk s ≡ b → cond b (Valid (sectionsOf s)) Malformed ≡ Valid q → Sound s q
+      go true p z = record { ok = p; sections = cc }
+      go false p z = clash (cc)
+
+  pub valid-bad : v ≡ Malformed → bookOk s ≡ false
+  unfolding validOf
+  valid-bad h = go (bookOk s) refl (sym e ∙ h)
+    where
+      go : (b : Bool) → bookOk s ≡ b → cond b (Valid (sectionsOf s)) Malformed ≡ Malformed → bookOk s ≡ false
+      go true p z = clash (cc)
+      go false p z = p
+
+unknown-says : (u v : Bool) → cond u (cond v InForce OutOfForce) Unknown ≡ Unknown → u ≡ false
+unknown-says true true e = clash (cc)
+unknown-says true false e = clash (cc)
+unknown-says false v e = refl
+
+out-says : (u v : Bool) → cond u (cond v InForce OutOfForce) Unknown ≡ OutOfForce → (u ≡ true) × (v ≡ false)
+out-says true true e = clash (cc)
+out-says true false e = (refl, refl)
+out-says false v e = clash (cc)
+
+in-says : (u v : Bool) → cond u (cond v InForce OutOfForce) Unknown ≡ InForce → (u ≡ true) × (v ≡ true)
+in-says true true e = (refl, refl)
+in-says true false e = clash (cc)
+in-says false v e = clash (cc)
+
+-- what the answer of `look_up` says of the book in use
+module _ (s : Text) (q : Sections) (h : Sound s q) (k : ℕ) (a b : Text) (d : ℕ) (r : Standing) (e : r ≡ standingIn s q k a b d) where
+  pub look-says : r ≡ standingOf (bookOf s) k (codeText k a b) d
+  unfolding bookOf
+  look-says = e ∙ standing-is s q h k a b d
+
+  pub unknown-known : r ≡ Unknown → listed (bookOf s) k (codeText k a b) ≡ false
+  unfolding standingOf
+  unknown-known z = unknown-says (listed (bookOf s) k (codeText k a b)) (listedOn (bookOf s) d k (codeText k a b)) (sym look-says ∙ z)
+
+  module _ (z : r ≡ OutOfForce) where
+    out : (listed (bookOf s) k (codeText k a b) ≡ true) × (listedOn (bookOf s) d k (codeText k a b) ≡ false)
+    unfolding standingOf
+    out = out-says (listed (bookOf s) k (codeText k a b)) (listedOn (bookOf s) d k (codeText k a b)) (sym look-says ∙ z)
+
+    pub out-known : listed (bookOf s) k (codeText k a b) ≡ true
+    out-known = out .0
+
+    pub out-force : listedOn (bookOf s) d k (codeText k a b) ≡ false
+    out-force = out .1
+
+  module _ (z : r ≡ InForce) where
+    ins : (listed (bookOf s) k (codeText k a b) ≡ true) × (listedOn (bookOf s) d k (codeText k a b) ≡ true)
+    unfolding standingOf
+    ins = in-says (listed (bookOf s) k (codeText k a b)) (listedOn (bookOf s) d k (codeText k a b)) (sym look-says ∙ z)
+
+    pub in-known : listed (bookOf s) k (codeText k a b) ≡ true
+    in-known = ins .0
+
+    pub in-force : listedOn (bookOf s) d k (codeText k a b) ≡ true
+    in-force = ins .1

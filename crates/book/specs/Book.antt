@@ -74,14 +74,10 @@ pub record Entry : Type 0 where
   pub kind : ℕ
   pub body : Text
 
--- the entry of kind k whose body starts these bytes
-unfoldable pub entryOf : ℕ → Text → Entry
-entryOf k s = record { kind = k; body = take (bodyWidth k) s }
-
 -- the entries from the next one on, after so many bytes that still belong to the last
 unfoldable pub entriesAfter : ℕ → Text → List Entry
 entriesAfter n [] = []
-entriesAfter zero (k ∷ s) = entryOf k s ∷ entriesAfter (bodyWidth k) s
+entriesAfter zero (k ∷ s) = record { kind = k; body = take (bodyWidth k) s } ∷ entriesAfter (bodyWidth k) s
 entriesAfter (suc n) (b ∷ s) = entriesAfter n s
 
 unfoldable pub entries : Text → List Entry
@@ -101,7 +97,7 @@ startOf e = take (startWidth (e .kind)) (datesOf e)
 unfoldable pub endOf : Entry → Text
 endOf e = drop (startWidth (e .kind)) (datesOf e)
 
--- Forms: two digits or a padded code; a start is a date, an end a date or open
+-- Forms: two digits or a padded code; "A start is a date and may exceed its end; that code is then never in force."
 
 unfoldable pub firstForm : ℕ → Text → Bool
 firstForm k t = cond (eqb k reason) (digits t) (isPadded t)
@@ -152,7 +148,7 @@ unfoldable pub inForce : ℕ → Entry → Bool
 inForce d e = startedBy d e && leb d (number (endOf e))
 
 -- the text with blanks behind it, up to w bytes. A longer text stays as it is, and is no code of that width.
-unfoldable pub filled : ℕ → Text → Text
+abbrev pub filled : ℕ → Text → Text
 filled zero t = t
 filled (suc w) [] = 32 ∷ filled w []
 filled (suc w) (b ∷ t) = b ∷ filled w t
@@ -169,17 +165,21 @@ isEntry k code e = eqb (e .kind) k && same (codeOf e) code
 unfoldable pub listed : List Entry → ℕ → Text → Bool
 listed es k code = any (isEntry k code) es
 
--- the code is in force on day d: an entry has it that is
-unfoldable pub listedOn : List Entry → ℕ → Text → ℕ → Bool
-listedOn es k code d = any (λ (e : Entry). isEntry k code e && inForce d e) es
+-- and is in force on a day: such an entry is
+unfoldable pub listedOn : List Entry → ℕ → ℕ → Text → Bool
+listedOn es d k code = any (λ (e : Entry). isEntry k code e && inForce d e) es
 
 -- what the entries say of a code on a day: unknown; known, not in force; in force
 unfoldable pub standingOf : List Entry → ℕ → Text → ℕ → Standing
-standingOf es k code d = cond (listed es k code) (cond (listedOn es k code d) InForce OutOfForce) Unknown
+standingOf es k code d = cond (listed es k code) (cond (listedOn es d k code) InForce OutOfForce) Unknown
 
 -- Reading a book
 
--- the entry of kind k whose body starts these bytes is of a known kind, and whole
+-- the entry of kind k whose body starts these bytes
+unfoldable pub entryOf : ℕ → Text → Entry
+entryOf k s = record { kind = k; body = take (bodyWidth k) s }
+
+-- it is of a known kind, and whole
 unfoldable pub isWhole : ℕ → Text → Bool
 isWhole k s = within 1 8 k && leb (bodyWidth k) (length s)
 

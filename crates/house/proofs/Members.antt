@@ -1,12 +1,14 @@
 -- Members: of lists put together, of those that pass a test, of what a function gives.
 -- Assumes nothing.
 use mathlib.Core.Path.{_≡_, refl, sym, ap, _∙_, subst}
-use mathlib.Core.Bool.{Bool, true, false, cond}
+use mathlib.Core.Bool.{Bool, true, false, cond, _&&_, _||_}
 use mathlib.Core.Logic.{_⊎_, inl, inr, ⊎-elim}
 use mathlib.Core.List.{List, [], _∷_, _++_, map}
 use lib.Dec.{T}
-use Rattle.house.specs.Text.{any, all, those, joined}
-use Rattle.house.specs.Members.{In, Distinct}
+use Prim.Native.Nat.{suc, _+_}
+use native.Mathlib.Omega.{arith}
+use Rattle.house.specs.Text.{any, all, those, count, joined}
+use Rattle.house.specs.Members.{In, Distinct, Rising}
 use Rattle.house.proofs.Facts.{both, left-of, right-of, of-true}
 
 module _ {A : Type 0} where
@@ -82,3 +84,105 @@ pub any-in : {A : Type 0} (p : A → Bool) (x : A) (xs : List A) → In x xs →
 any-in p x [] m t = absurd m
 any-in {A} p x (z ∷ xs) (inl e) t = left-of (p z) (any p xs) (subst (λ (w : A). T (p w)) e t)
 any-in p x (z ∷ xs) (inr m) t = right-of (p z) (any p xs) (any-in p x xs m t)
+
+-- Of those that pass a test, no two give the same
+
+module _ {A B : Type 0} (f : A → B) (p : A → Bool) where
+  -- so it is for a test that passes fewer
+  pub distinct-fewer : (q : A → Bool) → ((x : A) → T (q x) → T (p x)) → (xs : List A) → Distinct (map f (those p xs)) → Distinct (map f (those q xs))
+  distinct-fewer q sub [] d = tt
+  distinct-fewer q sub (x ∷ xs) d = go (λ (k : Distinct (map f (those p xs))). distinct-fewer q sub xs k) (p x) (q x) refl refl d
+    where
+      go : (Distinct (map f (those p xs)) → Distinct (map f (those q xs))) → (b c : Bool) → p x ≡ b → q x ≡ c
+          → Distinct (map f (cond b (x ∷ those p xs) (those p xs)))
+          → Distinct (map f (cond c (x ∷ those q xs) (those q xs)))
+      go rec true true e g k = (
+        (λ m.
+            let r = in-map f (f x) (those q xs) m in
+            let t = in-those q (r .0) xs (r .1) in
+            k .0 (subst (λ (y : B). In y (map f (those p xs))) (sym (r .2)) (map-in f (r .0) (those p xs) (those-in p (r .0) xs (t .0) (sub (r .0) (t .1)))))),
+        rec (k .1),
+      )
+      go rec true false e g k = rec (k .1)
+      go rec false true e g k = absurd (subst T e (sub x (of-true (q x) g)))
+      go rec false false e g k = rec k
+
+  -- two that give the same are one
+  pub same-one : (x y : A) (xs : List A) → Distinct (map f (those p xs)) → In x xs → In y xs → T (p x) → T (p y) → f x ≡ f y → x ≡ y
+  same-one x y [] d m k t u e = absurd m
+  same-one x y (z ∷ xs) d m k t u e =
+      go (λ (i : In x xs) (j : In y xs) (g : Distinct (map f (those p xs))). same-one x y xs g i j t u e) (p z) refl d m k
+    where
+      go : (In x xs → In y xs → Distinct (map f (those p xs)) → x ≡ y) → (b : Bool) → p z ≡ b
+          → Distinct (map f (cond b (z ∷ those p xs) (those p xs)))
+          → In x (z ∷ xs)
+          → In y (z ∷ xs)
+          → x ≡ y
+      go rec true q g (inl i) (inl j) = i ∙ sym j
+      go rec true q g (inl i) (inr j) =
+          absurd (g .0 (subst (λ (w : B). In w (map f (those p xs))) (sym e ∙ ap f i) (map-in f y (those p xs) (those-in p y xs j u))))
+      go rec true q g (inr i) (inl j) =
+          absurd (g .0 (subst (λ (w : B). In w (map f (those p xs))) (e ∙ ap f j) (map-in f x (those p xs) (those-in p x xs i t))))
+      go rec true q g (inr i) (inr j) = rec i j (g .1)
+      go rec false q g (inl i) k′ = absurd (subst T (ap p i ∙ q) t)
+      go rec false q g (inr i) (inl j) = absurd (subst T (ap p j ∙ q) u)
+      go rec false q g (inr i) (inr j) = rec i j g
+
+-- Lists that rise
+
+module _ {A : Type 0} (r : A → A → Type 0) where
+  pub rising-append : (xs ys : List A) → Rising r xs → Rising r ys → ((x y : A) → In x xs → In y ys → r x y) → Rising r (xs ++ ys)
+  rising-append [] ys a b l = b
+  rising-append (x ∷ xs) ys a b l =
+      ((λ y m. ⊎-elim (a .0 y) (l x y (inl refl)) (in-cases y xs ys m)), rising-append xs ys (a .1) b (λ z y m k. l z y (inr m) k))
+
+  pub rising-those : (p : A → Bool) (xs : List A) → Rising r xs → Rising r (those p xs)
+  rising-those p [] u = tt
+  rising-those p (x ∷ xs) u = go (p x) (rising-those p xs (u .1))
+    where
+      go : (b : Bool) → Rising r (those p xs) → Rising r (cond b (x ∷ those p xs) (those p xs))
+      go true k = ((λ y m. u .0 y (in-those p y xs m .0)), k)
+      go false k = k
+
+  module _ (never : (x y : A) → r x y → r y x → ⊥) where
+    pub rising-distinct : (xs : List A) → Rising r xs → Distinct xs
+    rising-distinct [] u = tt
+    rising-distinct (x ∷ xs) u = ((λ m. never x x (u .0 x m) (u .0 x m)), rising-distinct xs (u .1))
+
+    -- a member of the rest is none of the first again
+    past : (x y : A) (xs ys : List A) → ((z : A) → In z xs → r x z) → y ≡ x → ((z : A) → In z xs → In z (y ∷ ys)) → (z : A) → In z xs → In z ys
+    past x y xs ys a e f z m =
+        ⊎-elim (λ q. let b = subst (λ (w : A). r x w) (q ∙ e) (a z m) in absurd (never x x b b)) (λ k. k) (f z m)
+
+    -- two lists that rise and have the same members are one
+    pub one-rising : (xs ys : List A) → Rising r xs → Rising r ys → ((z : A) → In z xs → In z ys) → ((z : A) → In z ys → In z xs) → xs ≡ ys
+    one-rising [] [] a b f g = refl
+    one-rising [] (y ∷ ys) a b f g = absurd (g y (inl refl))
+    one-rising (x ∷ xs) [] a b f g = absurd (f x (inl refl))
+    one-rising (x ∷ xs) (y ∷ ys) a b f g =
+        go (λ (e : x ≡ y). one-rising xs ys (a .1) (b .1) (past x y xs ys (a .0) (sym e) (λ z m. f z (inr m))) (past y x ys xs (b .0) e (λ z m. g z (inr m))))
+        (f x (inl refl)) (g y (inl refl))
+      where
+        tails : (x ≡ y → xs ≡ ys) → x ≡ y → x ∷ xs ≡ y ∷ ys
+        tails rest e = let k : xs ≡ ys = rest e in cc
+
+        go : (x ≡ y → xs ≡ ys) → (x ≡ y) ⊎ In x ys → (y ≡ x) ⊎ In y xs → x ∷ xs ≡ y ∷ ys
+        go rest (inl e) k = tails rest e
+        go rest (inr m) (inl e) = tails rest (sym e)
+        go rest (inr m) (inr k) = absurd (never x y (a .0 y k) (b .0 x m))
+
+pub count-append : {A : Type 0} (p : A → Bool) (xs ys : List A) → count p (xs ++ ys) ≡ count p xs + count p ys
+count-append p [] ys = omega arith
+count-append p (x ∷ xs) ys = go (p x) (count-append p xs ys)
+  where
+    go : (b : Bool) → count p (xs ++ ys) ≡ count p xs + count p ys → cond b (suc (count p (xs ++ ys))) (count p (xs ++ ys)) ≡ cond b (suc (count p xs)) (count p xs) + count p ys
+    go true e = omega arith
+    go false e = e
+
+pub all-append : {A : Type 0} (p : A → Bool) (xs ys : List A) → all p (xs ++ ys) ≡ all p xs && all p ys
+all-append p [] ys = refl
+all-append p (x ∷ xs) ys = go (p x) (all-append p xs ys)
+  where
+    go : (b : Bool) → all p (xs ++ ys) ≡ all p xs && all p ys → b && all p (xs ++ ys) ≡ b && all p xs && all p ys
+    go true e = e
+    go false e = refl

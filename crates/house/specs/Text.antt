@@ -55,7 +55,7 @@ module _ {A : Type 0} where
   isEmpty [] = true
   isEmpty (x ∷ xs) = false
 
-  -- the list's element after x, and each one after the one before it, is in the relation to it
+  -- the relation holds from x to the first element, and from each to the next
   abbrev pub chained : (A → A → Bool) → A → List A → Bool
   chained r x [] = true
   chained r x (y ∷ ys) = r x y && chained r y ys
@@ -142,7 +142,7 @@ number t = numberFrom 0 t
 
 -- Padded codes
 
--- the text with blanks behind it, w bytes in all
+-- w bytes in all: the text with blanks behind it, or as much of it as fits
 unfoldable pub pad : ℕ → Text → Text
 pad zero t = []
 pad (suc w) [] = 32 ∷ pad w []

@@ -43,7 +43,7 @@ isLiveSlot t = eqb (getD t 0 0) 1
 unfoldable pub isFreeSlot : Text → Bool
 isFreeSlot t = all (λ (b : ℕ). eqb b 0) t
 
--- "kind 1 (a live event ..) or kind 0 (free, 37 zero bytes)"
+-- a live event, or a free slot
 unfoldable pub slotForm : Text → Bool
 slotForm t = cond (isLiveSlot t) (eventForm (drop 1 t)) (isFreeSlot t)
 

@@ -1,11 +1,13 @@
 -- The lines of a file and the fields of a line, for a file of any shape.
 -- Assumes nothing.
-use Prim.Native.Nat.{ℕ, zero, suc}
+use Prim.Native.Nat.{ℕ, zero, suc, _+_, _-_, _≤_}
+use mathlib.Core.Path.{_≡_}
 use mathlib.Core.Bool.{Bool, true, false, cond}
 use mathlib.Core.List.{List, [], _∷_}
-use lib.ListN.{length, getD}
+use lib.ListN.{length, getD, drop}
 use lib.Dec.{eqb, ltb}
 use Rattle.house.specs.Text.{Text}
+use Rattle.lines.specs.declared.LineAt.{LineAt}
 
 abbrev pub LF : ℕ
 LF = 10
@@ -46,6 +48,37 @@ unfoldable pub linesOf : Text → List Line
 linesOf [] = []
 linesOf (b ∷ s) = byEnding (endingOf (b ∷ s)) b (linesOf s)
 
+-- a line that is not there has no bytes
+abbrev pub noLine : Line
+noLine = record { text = []; ended = false }
+
+-- The line that starts at a position: the first line of the file from there on
+
+unfoldable pub lineOf : Text → Line
+lineOf s = getD (linesOf s) 0 noLine
+
+-- how many bytes its text has
+unfoldable pub textLen : Text → ℕ
+textLen s = length (lineOf s .text)
+
+-- and with its ending
+unfoldable pub lineLen : Text → ℕ
+lineLen s = textLen s + endingOf (drop (textLen s) s)
+
+-- where its text ends, where the next line starts, and whether an LF ends it, s being the file from position at on
+unfoldable pub lineAt : ℕ → Text → LineAt
+lineAt at s = record { end = at + textLen s; next = at + lineLen s; lf = lineOf s .ended }
+
+-- r is the line that starts at position at of the file s. What follows from it is said too, for those who cut the line out of the
+-- file: it lies behind its start and, unless that is past the file's end, within the file.
+pub record LineIs (s : Text) (at : ℕ) (r : LineAt) : Type 0 where
+  pub exact : r ≡ lineAt at (drop at s)
+  pub from : at ≤ r .end
+  pub on : r .end ≤ r .next
+  pub within : r .next ≤ at + (length s - at)
+
+-- Fields
+
 -- a byte before the rest of its field, which is the first of the fields that follow; where no pipe follows, it is in no field
 unfoldable pub lengthen : ℕ → List Text → List Text
 lengthen b [] = []
@@ -59,10 +92,6 @@ fieldsOf (b ∷ s) = cond (eqb b pipe) ([] ∷ fieldsOf s) (lengthen b (fieldsOf
 -- field f of a line's text, counted from 1; empty where it is not there
 unfoldable pub fieldOf : Text → ℕ → Text
 fieldOf t f = getD ([] ∷ fieldsOf t) f []
-
--- a line that is not there has no bytes
-abbrev pub noLine : Line
-noLine = record { text = []; ended = false }
 
 -- the text of line n, counted from 1
 unfoldable pub textAt : Text → ℕ → Text

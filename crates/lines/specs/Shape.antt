@@ -19,7 +19,8 @@ isOne [] x = false
 isOne (y ∷ ys) x = cond (eqb x y) true (isOne ys x)
 
 -- "Order: IV, IH, patients, IF, nothing more. A patient is one IP, then any number of immunizations (II and at least one IE), then
--- any number of IN with at least one IA each, at least one II or IN in all. No patient at all is allowed."
+-- any number of IN with at least one IA each, at least one II or IN in all. No patient at all is allowed. The same patient may have two IP
+-- records."
 -- So it turns on the line before: whether a record of kind k may follow one of kind p, 0 being the file's start.
 unfoldable pub follows : ℕ → ℕ → Bool
 follows p k =

@@ -1,0 +1,67 @@
+-- The fields of a line's text: the first field, and the fields after it.
+-- Assumes nothing.
+use mathlib.Core.Path.{_≡_, refl, sym, _∙_}
+use mathlib.Core.Bool.{Bool, true, false, cond}
+use mathlib.Core.List.{List, [], _∷_}
+use Prim.Native.Nat.{ℕ, zero, suc, _≤_, _<_}
+use native.Mathlib.Omega.{arith}
+use lib.Dec.{eqb}
+use lib.ListN.{length, take, drop}
+use lib.Seq.{drop-nil}
+use Rattle.house.specs.Text.{Text}
+use Rattle.lines.specs.Lines.{pipe, lengthen, fieldsOf}
+use Rattle.lines.specs.Inside.{pipeLen, fieldsLen}
+
+-- a byte before the fields adds none and moves none but the first
+pub lengthen-length : (b : ℕ) (fs : List Text) → length (lengthen b fs) ≡ length fs
+unfolding lengthen
+lengthen-length b [] = refl
+lengthen-length b (f ∷ fs) = refl
+
+lengthen-drop : (n b : ℕ) (fs : List Text) → drop (suc n) (lengthen b fs) ≡ drop (suc n) fs
+unfolding lengthen
+lengthen-drop n b [] = refl
+lengthen-drop n b (f ∷ fs) = refl
+
+-- the first field and those after it, where there is a pipe
+pub fields-first : (t : Text) → pipeLen t < length t → fieldsOf t ≡ take (pipeLen t) t ∷ fieldsOf (drop (suc (pipeLen t)) t)
+unfolding fieldsOf pipeLen lengthen
+fields-first [] h = absurd (omega arith)
+fields-first (b ∷ t) h = go (eqb b pipe) refl (fields-first t)
+  where
+    go : (v : Bool) → eqb b pipe ≡ v → (pipeLen t < length t → fieldsOf t ≡ take (pipeLen t) t ∷ fieldsOf (drop (suc (pipeLen t)) t))
+        → fieldsOf (b ∷ t) ≡ take (pipeLen (b ∷ t)) (b ∷ t) ∷ fieldsOf (drop (suc (pipeLen (b ∷ t))) (b ∷ t))
+    go true e k = simp e
+    go false e k = simp (e, k (omega (arith, simp e at h)))
+
+-- and none where there is none
+pub fields-none : (t : Text) → length t ≤ pipeLen t → fieldsOf t ≡ []
+unfolding fieldsOf pipeLen lengthen
+fields-none [] h = refl
+fields-none (b ∷ t) h = go (eqb b pipe) refl (fields-none t)
+  where
+    go : (v : Bool) → eqb b pipe ≡ v → (length t ≤ pipeLen t → fieldsOf t ≡ []) → fieldsOf (b ∷ t) ≡ []
+    go true e k = absurd (omega (arith, simp e at h))
+    go false e k = simp (e, k (omega (arith, simp e at h)))
+
+-- the fields after f fields
+pub fields-after : (f : ℕ) (t : Text) → fieldsOf (drop (fieldsLen f t) t) ≡ drop f (fieldsOf t)
+unfolding fieldsLen fieldsOf
+fields-after f [] = simp drop-nil
+fields-after zero (b ∷ t) = refl
+fields-after (suc f) (b ∷ t) = go (eqb b pipe) (fields-after f t) (fields-after (suc f) t)
+  where
+    go : (v : Bool) → fieldsOf (drop (fieldsLen f t) t) ≡ drop f (fieldsOf t) → fieldsOf (drop (fieldsLen (suc f) t) t) ≡ drop (suc f) (fieldsOf t)
+        → fieldsOf (drop (cond v (fieldsLen f t) (fieldsLen (suc f) t)) t) ≡ drop (suc f) (cond v ([] ∷ fieldsOf t) (lengthen b (fieldsOf t)))
+    go true h k = h
+    go false h k = k ∙ sym (lengthen-drop f b (fieldsOf t))
+
+pub fields-le : (f : ℕ) (t : Text) → fieldsLen f t ≤ length t
+unfolding fieldsLen
+fields-le f [] = omega arith
+fields-le zero (b ∷ t) = omega arith
+fields-le (suc f) (b ∷ t) = go (eqb b pipe) (fields-le f t) (fields-le (suc f) t)
+  where
+    go : (v : Bool) → fieldsLen f t ≤ length t → fieldsLen (suc f) t ≤ length t → suc (cond v (fieldsLen f t) (fieldsLen (suc f) t)) ≤ suc (length t)
+    go true h k = omega arith
+    go false h k = omega arith

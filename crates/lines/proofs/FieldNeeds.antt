@@ -1,0 +1,129 @@
+-- What each need of `count_fields`, `field_start`, `pipe_from`, `field_of`, `field` and `has_field` asks.
+-- Assumes nothing.
+use mathlib.Core.Path.{_≡_, refl, _∙_}
+use mathlib.Core.Bool.{false, cond}
+use mathlib.Core.List.{[], _∷_}
+use Prim.Native.Nat.{ℕ, zero, suc, _+_, _-_, _≤_, _<_}
+use native.Mathlib.Nat.{zero-add, add-zero, add-sub-cancel-left}
+use native.Mathlib.Numerals.{sub-one}
+use native.Mathlib.Omega.{arith}
+use borrow.Author.Needs.{needs}
+use borrow.Author.Tests.{eq-eqb, ne-eqb}
+use lib.Dec.{eqb, ltb}
+use lib.ListN.{length, getD, take, drop, length-drop}
+use lib.Seq.{getD-drop}
+use Rattle.house.specs.Text.{Text}
+use Rattle.house.proofs.Suffix.{drop-here, drop-past}
+use Rattle.lines.specs.Lines.{pipe, fieldsOf, fieldOf, textAt, fieldText, fieldThere}
+use Rattle.lines.specs.Inside.{pipeLen, fieldsLen}
+use Rattle.lines.proofs.FieldLaws.{lengthen-length, fields-first, fields-none, fields-after, fields-le}
+
+-- count_fields: the count x, from a position i with n fields counted; a turn leaves m
+pub count-holds : (t : Text) → length (fieldsOf t) ≡ 0 + length (fieldsOf t)
+count-holds t = simp zero-add
+
+module _ (t : Text) (i n x : ℕ) (inv : x ≡ n + length (fieldsOf (drop i t))) where
+  module _ (m : ℕ) (h : i < length t) where
+    pub count-pipe : getD t i 0 ≡ pipe → m ≡ n + 1 → x ≡ m + length (fieldsOf (drop (i + 1) t))
+    unfolding fieldsOf
+    count-pipe e k = rw inv (simp (k, drop-here t i h, eq-eqb _ _ e) (omega arith))
+
+    pub count-on : (getD t i 0 ≡ pipe → ⊥) → m ≡ n → x ≡ m + length (fieldsOf (drop (i + 1) t))
+    unfolding fieldsOf
+    count-on e k = rw inv (simp (k, drop-here t i h, ne-eqb _ _ e, lengthen-length))
+
+  pub count-end : length t ≤ i → n ≡ x
+  unfolding fieldsOf
+  count-end h = rw inv (simp (drop-past t i h, add-zero))
+
+pub ruleset for-count-fields = (needs, count-holds, count-pipe, count-on, count-end)
+
+-- field_start: the start x, from a position i with f fields left; a turn leaves g
+start-zero : (t : Text) → fieldsLen 0 t ≡ 0
+unfolding fieldsLen
+start-zero [] = refl
+start-zero (b ∷ t) = refl
+
+start-cons : (f b : ℕ) (t : Text) → (f ≡ 0 → ⊥) → fieldsLen f (b ∷ t) ≡ suc (cond (eqb b pipe) (fieldsLen (f - 1) t) (fieldsLen f t))
+unfolding fieldsLen
+start-cons zero b t n = absurd (n refl)
+start-cons (suc f) b t n = rw sub-one
+
+pub start-holds : (t : Text) (f : ℕ) → fieldsLen f t ≡ 0 + fieldsLen f t
+start-holds t f = simp zero-add
+
+module _ (t : Text) (i f x : ℕ) (inv : x ≡ i + fieldsLen f (drop i t)) where
+  pub start-done : f ≡ 0 → i ≡ x
+  start-done e = rw (inv, e, start-zero, add-zero)
+
+  pub start-end : length t ≤ i → i ≡ x
+  unfolding fieldsLen
+  start-end h = rw inv (simp (drop-past t i h, add-zero))
+
+  module _ (g : ℕ) (h : i < length t) (n : f ≡ 0 → ⊥) where
+    pub start-pipe : getD t i 0 ≡ pipe → g ≡ f - 1 → x ≡ i + 1 + fieldsLen g (drop (i + 1) t)
+    start-pipe e k = rw inv (simp (k, drop-here t i h, start-cons, eq-eqb _ _ e) (omega arith))
+
+    pub start-on : (getD t i 0 ≡ pipe → ⊥) → g ≡ f → x ≡ i + 1 + fieldsLen g (drop (i + 1) t)
+    start-on e k = rw inv (simp (k, drop-here t i h, start-cons, ne-eqb _ _ e) (omega arith))
+
+pub ruleset for-field-start = (needs, start-holds, start-done, start-end, start-pipe, start-on)
+
+-- pipe_from: the place x of the pipe, from a position i
+module _ (t : Text) (i x : ℕ) (inv : x ≡ i + pipeLen (drop i t)) where
+  pub pipe-hit : i < length t → getD t i 0 ≡ pipe → i ≡ x
+  unfolding pipeLen
+  pipe-hit h e = rw inv (simp (drop-here t i h, eq-eqb _ _ e, add-zero))
+
+  pub pipe-on : i < length t → (getD t i 0 ≡ pipe → ⊥) → x ≡ i + 1 + pipeLen (drop (i + 1) t)
+  unfolding pipeLen
+  pipe-on h n = rw inv (simp (drop-here t i h, ne-eqb _ _ n) (omega arith))
+
+  pub pipe-end : length t ≤ i → i ≡ x
+  unfolding pipeLen
+  pipe-end h = rw inv (simp (drop-past t i h, add-zero))
+
+pub ruleset for-pipe-from = (needs, pipe-hit, pipe-on, pipe-end)
+
+-- field_of: the field's start a and end e
+pub field-zero : (t : Text) (f : ℕ) → f ≡ 0 → [] ≡ fieldOf t f
+unfolding fieldOf
+field-zero t f e = rw e
+
+field-pred : (t : Text) (f : ℕ) → (f ≡ 0 → ⊥) → fieldOf t f ≡ getD (fieldsOf t) (f - 1) []
+unfolding fieldOf
+field-pred t zero n = absurd (n refl)
+field-pred t (suc f) n = rw sub-one
+
+module _ (t : Text) (f a e : ℕ) (n : f ≡ 0 → ⊥) (p : a ≡ fieldsLen (f - 1) t) (q : e ≡ a + pipeLen (drop a t)) where
+  field-first : fieldOf t f ≡ getD (fieldsOf (drop a t)) 0 []
+  field-first = field-pred t f n ∙ rw (p, fields-after, getD-drop, add-zero)
+
+  pub field-there : e < length t → take (e - a) (drop a t) ≡ fieldOf t f
+  field-there h =
+      let k : pipeLen (drop a t) < length (drop a t) = omega (arith, length-drop a t) in
+      rw (field-first, fields-first (drop a t) k, q, add-sub-cancel-left)
+
+  pub field-absent : length t ≤ e → [] ≡ fieldOf t f
+  field-absent h =
+      let l : a ≤ length t = rw p (fields-le (f - 1) t) in
+      let k : length (drop a t) ≤ pipeLen (drop a t) = omega (arith, length-drop a t) in
+      rw (field-first, fields-none (drop a t) k)
+
+pub ruleset for-field-of = (needs, field-zero, field-there, field-absent)
+
+-- field, has_field
+pub field-text : (s : Text) (n f : ℕ) (t r : Text) → t ≡ textAt s n → r ≡ fieldOf t f → r ≡ fieldText s n f
+unfolding fieldText
+field-text s n f t r x e = rw (← x) e
+
+pub there-zero : (s : Text) (n f : ℕ) → f ≡ 0 → false ≡ fieldThere s n f
+unfolding fieldThere
+there-zero s n f e = rw e
+
+pub there-is : (s : Text) (n : ℕ) (t : Text) (m f : ℕ) → t ≡ textAt s n → m ≡ length (fieldsOf t) → (f ≡ 0 → ⊥) → ltb (f - 1) m ≡ fieldThere s n f
+unfolding fieldThere
+there-is s n t m zero x e z = absurd (z refl)
+there-is s n t m (suc f) x e z = rw (e, x, sub-one)
+
+pub ruleset for-field = (needs, field-text, there-zero, there-is)

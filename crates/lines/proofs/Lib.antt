@@ -1,0 +1,12 @@
+-- Laws for the crates above
+pub mod LineLaws
+pub mod PartLaws
+pub mod FieldLaws
+pub mod ShapeLaws
+-- What the functions' own needs ask
+mod LineNeeds
+mod FieldNeeds
+mod KindNeeds
+mod FaultNeeds
+-- No second answer
+mod OneAnswer

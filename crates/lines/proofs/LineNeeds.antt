@@ -1,0 +1,134 @@
+-- What each need of `ending`, `text_end`, `line_at`, `line_start` and `line_text` asks.
+-- Assumes nothing.
+use mathlib.Core.Path.{_≡_, refl, sym, _∙_}
+use mathlib.Core.Bool.{not}
+use mathlib.Core.List.{[], _∷_}
+use Prim.Native.Nat.{ℕ, zero, suc, _+_, _-_, _≤_, _<_}
+use native.Mathlib.Nat.{zero-add, add-zero, add-assoc}
+use native.Mathlib.Numerals.{sub-one}
+use native.Mathlib.Omega.{arith}
+use borrow.Author.Needs.{needs}
+use borrow.Author.Tests.{eq-eqb, ne-eqb}
+use lib.Dec.{eqb}
+use lib.ListN.{length, getD, take, drop}
+use lib.Seq.{drop-drop, drop-nil}
+use Rattle.house.specs.Text.{Text}
+use Rattle.house.proofs.Suffix.{drop-here, drop-past}
+use Rattle.lines.specs.declared.LineAt.{LineAt}
+use Rattle.lines.specs.Lines.{LF, CR, noLine, lfNext, endingOf, byEnding, linesOf, lineOf, textLen, lineLen, lineAt, LineIs, textAt}
+use Rattle.lines.specs.Inside.{startOf}
+use Rattle.lines.proofs.LineLaws.{by-ending, text-more, ended-is, lines-step, line-is, at-next, at-text, left-falls}
+
+-- ending
+module _ (s : Text) (i : ℕ) where
+  pub ending-past : length s ≤ i → 0 ≡ endingOf (drop i s)
+  unfolding endingOf
+  ending-past h = rw (drop-past s i h)
+
+  module _ (h : i < length s) where
+    pub ending-lf : getD s i 0 ≡ LF → 1 ≡ endingOf (drop i s)
+    unfolding endingOf
+    ending-lf e = rw (drop-here s i h, eq-eqb _ _ e)
+
+    module _ (e : getD s i 0 ≡ LF → ⊥) where
+      pub ending-other : (getD s i 0 ≡ CR → ⊥) → 0 ≡ endingOf (drop i s)
+      unfolding endingOf
+      ending-other f = rw (drop-here s i h, ne-eqb _ _ e, ne-eqb _ _ f)
+
+      module _ (f : getD s i 0 ≡ CR) where
+        pub ending-last : length s ≤ i + 1 → 0 ≡ endingOf (drop i s)
+        unfolding endingOf lfNext
+        ending-last k = rw (drop-here s i h, ne-eqb _ _ e, eq-eqb _ _ f, drop-past s (i + 1) k)
+
+        pub ending-crlf : i + 1 < length s → getD s (i + 1) 0 ≡ LF → 2 ≡ endingOf (drop i s)
+        unfolding endingOf lfNext
+        ending-crlf k g = rw (drop-here s i h, ne-eqb _ _ e, eq-eqb _ _ f, drop-here s (i + 1) k, eq-eqb _ _ g)
+
+        pub ending-cr : i + 1 < length s → (getD s (i + 1) 0 ≡ LF → ⊥) → 0 ≡ endingOf (drop i s)
+        unfolding endingOf lfNext
+        ending-cr k g = rw (drop-here s i h, ne-eqb _ _ e, eq-eqb _ _ f, drop-here s (i + 1) k, ne-eqb _ _ g)
+
+pub ruleset for-ending = (needs, ending-past, ending-lf, ending-other, ending-last, ending-crlf, ending-cr)
+
+-- text_end: the end x, from a position i that the loop has come to
+text-stop : (s : Text) → (endingOf s ≡ 0 → ⊥) → textLen s ≡ 0
+unfolding textLen lineOf linesOf byEnding endingOf lfNext
+text-stop = by-ending (λ (s : Text). (endingOf s ≡ 0 → ⊥) → textLen s ≡ 0) (λ n. refl) (λ b s e h n. absurd (n e)) (λ s h n. refl) (λ s h n. refl)
+
+text-nil : textLen [] ≡ 0
+unfolding textLen lineOf linesOf
+text-nil = refl
+
+module _ (s : Text) (i x : ℕ) (inv : x ≡ i + textLen (drop i s)) where
+  pub end-past : length s ≤ i → i ≡ x
+  end-past h = rw (inv, drop-past s i h, text-nil, add-zero)
+
+  module _ (h : i < length s) (e : ℕ) (p : e ≡ endingOf (drop i s)) where
+    pub end-stop : (e ≡ 0 → ⊥) → i ≡ x
+    end-stop n = rw (inv, text-stop (drop i s) (λ z. n (p ∙ z)), add-zero)
+
+    pub end-on : e ≡ 0 → x ≡ i + 1 + textLen (drop (i + 1) s)
+    end-on z =
+        let g : endingOf (getD s i 0 ∷ drop (i + 1) s) ≡ 0 = rw (← drop-here s i h) (sym p ∙ z) in
+        rw (inv, drop-here s i h, text-more (getD s i 0) (drop (i + 1) s) g) (omega arith)
+
+pub ruleset for-text-end = (needs, end-past, end-stop, end-on)
+
+-- line_at: the text's end t, and the ending of e bytes there
+pub line-found : (s : Text) (at t e : ℕ) → t ≡ at + textLen (drop at s) → e ≡ endingOf (drop t s) → LineIs s at (record { end = t; next = t + e; lf = not (eqb e 0) })
+unfolding lineAt lineLen
+line-found s at t e p q =
+    let f : endingOf (drop (textLen (drop at s)) (drop at s)) ≡ e = rw (drop-drop, ← p) (sym q) in
+    line-is s at _ (rw (ended-is, f, p, add-assoc))
+
+pub ruleset for-line-at = (needs, line-found)
+
+-- line_start: the place x where the line starts, from a position at with k lines left
+start-nil : (k : ℕ) → startOf k [] ≡ 0
+unfolding startOf lineLen textLen lineOf linesOf endingOf
+start-nil zero = refl
+start-nil (suc k) = simp (drop-nil, start-nil k)
+
+start-suc : (k : ℕ) (s : Text) → (k ≡ 0 → ⊥) → startOf k s ≡ lineLen s + startOf (k - 1) (drop (lineLen s) s)
+unfolding startOf
+start-suc zero s n = absurd (n refl)
+start-suc (suc k) s n = rw sub-one
+
+pub start-holds : (s : Text) (k : ℕ) → startOf k s ≡ 0 + startOf k s
+start-holds s k = simp zero-add
+
+module _ (s : Text) (at k x : ℕ) (inv : x ≡ at + startOf k (drop at s)) where
+  pub start-done : k ≡ 0 → at ≡ x
+  unfolding startOf
+  start-done e = rw (inv, e, add-zero)
+
+  pub start-end : length s ≤ at → at ≡ x
+  start-end h = rw (inv, drop-past s at h, start-nil, add-zero)
+
+  pub start-on : (q : LineAt) → LineIs s at q → (k ≡ 0 → ⊥) → x ≡ q .next + startOf (k - 1) (drop (q .next) s)
+  start-on q e n = rw (inv, start-suc k (drop at s) n, drop-drop, at-next s at q e) (omega arith)
+
+pub ruleset for-line-start = (needs, start-holds, start-done, start-end, start-on, left-falls)
+
+-- line_text. The text of line k + 1 is that of the line which starts after k lines
+no-text : (k : ℕ) → getD (linesOf []) k noLine .text ≡ lineOf [] .text
+unfolding linesOf lineOf
+no-text k = refl
+
+text-after : (k : ℕ) (s : Text) → getD (linesOf s) k noLine .text ≡ lineOf (drop (startOf k s) s) .text
+unfolding startOf
+text-after zero [] = no-text 0
+text-after zero (b ∷ s) = rw (lines-step (b ∷ s) (omega arith))
+text-after (suc k) [] = simp drop-nil (no-text (suc k))
+text-after (suc k) (b ∷ s) = rw (lines-step (b ∷ s) (omega arith)) (text-after k (drop (lineLen (b ∷ s)) (b ∷ s)) ∙ rw drop-drop)
+
+pub text-none : (s : Text) (n : ℕ) → n ≡ 0 → [] ≡ textAt s n
+unfolding textAt
+text-none s n e = rw e
+
+pub text-part : (s : Text) (n at : ℕ) (q : LineAt) → (n ≡ 0 → ⊥) → at ≡ startOf (n - 1) s → LineIs s at q → take (q .end - at) (drop at s) ≡ textAt s n
+unfolding textAt
+text-part s zero at q z a e = absurd (z refl)
+text-part s (suc k) at q z a e = at-text s at q e ∙ rw (a, sub-one) (sym (text-after k s))
+
+pub ruleset for-line-text = (needs, text-none, text-part)

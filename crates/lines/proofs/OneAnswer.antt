@@ -1,0 +1,36 @@
+-- No second answer meets the contract of a public function.
+-- Assumes nothing.
+use mathlib.Core.Path.{_≡_, sym, _∙_}
+use mathlib.Core.Bool.{Bool}
+use Prim.Native.Nat.{ℕ}
+use lib.ListN.{length}
+use Rattle.house.specs.Text.{Text}
+use Rattle.lines.specs.declared.LineAt.{LineAt}
+use Rattle.lines.specs.declared.Shape.{Shape}
+use Rattle.lines.specs.Lines.{fieldsOf, fieldOf, fieldText, fieldThere, LineIs}
+use Rattle.lines.specs.Records.{recordOf}
+use Rattle.lines.specs.Shape.{shapeOf}
+
+one : {A : Type 0} {x r q : A} → r ≡ x → q ≡ x → r ≡ q
+one e f = e ∙ sym f
+
+shape-of : (s : Text) (r q : Shape) → r ≡ shapeOf s → q ≡ shapeOf s → r ≡ q
+shape-of s r q = one
+
+line-at : (s : Text) (at : ℕ) (r q : LineAt) → LineIs s at r → LineIs s at q → r ≡ q
+line-at s at r q e f = one (e .exact) (f .exact)
+
+kind-of : (t : Text) (r q : ℕ) → r ≡ recordOf t → q ≡ recordOf t → r ≡ q
+kind-of t r q = one
+
+count-fields : (t : Text) (r q : ℕ) → r ≡ length (fieldsOf t) → q ≡ length (fieldsOf t) → r ≡ q
+count-fields t r q = one
+
+field-of : (t : Text) (f : ℕ) (r q : Text) → r ≡ fieldOf t f → q ≡ fieldOf t f → r ≡ q
+field-of t f r q = one
+
+field : (s : Text) (n f : ℕ) (r q : Text) → r ≡ fieldText s n f → q ≡ fieldText s n f → r ≡ q
+field s n f r q = one
+
+has-field : (s : Text) (n f : ℕ) (r q : Bool) → r ≡ fieldThere s n f → q ≡ fieldThere s n f → r ≡ q
+has-field s n f r q = one

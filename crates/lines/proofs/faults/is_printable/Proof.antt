@@ -1,0 +1,28 @@
+use Rattle.lines.proofs.FaultNeeds.{for-is-printable}
+use Prim.Native.Nat.{_-_}
+use mathlib.Core.Path.{_≡_}
+use lib.ListN.{length, drop}
+use Rattle.lines.specs.Shape.{printable}
+use Rattle.lines.proofs.faults.is_printable.Statement.{statement}
+use Rattle.lines.proofs.faults.is_printable.Tie as tie
+
+abbrev Inv-loop : tie.InvT-loop
+Inv-loop text i₀ i = printable text ≡ printable (drop i text)
+
+abbrev μ-loop : tie.MeasureT-loop
+μ-loop text i₀ i = length text - i
+
+pub is-printable-spec : {M : Type 1} → statement M
+is-printable-spec =
+    tie.close
+    (tie.spec
+    Inv-loop
+    μ-loop
+    (λ c. search for-is-printable)
+    (λ c. search for-is-printable)
+    (λ c. search for-is-printable)
+    (λ c. search for-is-printable)
+    (λ c. search for-is-printable)
+    (λ c. search for-is-printable)
+    (λ c. search for-is-printable)
+    (λ c. search for-is-printable))

@@ -1,0 +1,28 @@
+use Rattle.lines.proofs.FieldNeeds.{for-count-fields}
+use mathlib.Core.Logic.{⊎-elim}
+use Prim.Native.Nat.{_-_, _≤_, _+_}
+use mathlib.Core.Path.{_≡_}
+use lib.ListN.{length, drop}
+use Rattle.lines.specs.Lines.{fieldsOf}
+use Rattle.lines.proofs.fields.count_fields.Statement.{statement}
+use Rattle.lines.proofs.fields.count_fields.Tie as tie
+
+abbrev Inv-loop : tie.InvT-loop
+Inv-loop text n₀ i₀ n i = (n ≤ i) × (i ≤ length text) × (length (fieldsOf text) ≡ n + length (fieldsOf (drop i text)))
+
+abbrev μ-loop : tie.MeasureT-loop
+μ-loop text n₀ i₀ n i = length text - i
+
+pub count-fields-spec : {M : Type 1} → statement M
+count-fields-spec =
+    tie.close
+    (tie.spec
+    Inv-loop
+    μ-loop
+    (λ c. search for-count-fields)
+    (λ c. search for-count-fields)
+    (λ c. search for-count-fields)
+    (λ c. search for-count-fields)
+    (λ c. search for-count-fields)
+    (λ c. ⊎-elim (λ w. search for-count-fields) (λ w. search for-count-fields) (c .if1 .came))
+    (λ c. search for-count-fields))

@@ -1,0 +1,19 @@
+use Rattle.lines.proofs.FieldNeeds.{for-field-of}
+use Rattle.lines.proofs.fields.field_of.Statement.{statement}
+use Rattle.lines.proofs.fields.field_of.Tie as tie
+
+pub field-of-spec : {M : Type 1} → statement M
+field-of-spec =
+    tie.close
+    (tie.spec
+    (λ c. search for-field-of)
+    (λ c. search for-field-of)
+    (λ c. search for-field-of)
+    (λ c. search for-field-of)
+    (λ c. search for-field-of)
+    (λ c. search for-field-of)
+    (λ c. search for-field-of)
+    (λ c. search for-field-of)
+    (λ c. search for-field-of)
+    (λ c. search for-field-of)
+    (λ c. search for-field-of))

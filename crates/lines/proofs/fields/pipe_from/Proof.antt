@@ -1,0 +1,27 @@
+use Rattle.lines.proofs.FieldNeeds.{for-pipe-from}
+use Prim.Native.Nat.{_-_, _+_}
+use mathlib.Core.Path.{_≡_}
+use lib.ListN.{length, drop}
+use Rattle.lines.specs.Inside.{pipeLen}
+use Rattle.lines.proofs.fields.pipe_from.Statement.{statement}
+use Rattle.lines.proofs.fields.pipe_from.Tie as tie
+
+abbrev Inv-loop : tie.InvT-loop
+Inv-loop text at i₀ i = at + pipeLen (drop at text) ≡ i + pipeLen (drop i text)
+
+abbrev μ-loop : tie.MeasureT-loop
+μ-loop text at i₀ i = length text - i
+
+pub pipe-from-spec : {M : Type 1} → statement M
+pipe-from-spec =
+    tie.close
+    (tie.spec
+    Inv-loop
+    μ-loop
+    (λ c. search for-pipe-from)
+    (λ c. search for-pipe-from)
+    (λ c. search for-pipe-from)
+    (λ c. search for-pipe-from)
+    (λ c. search for-pipe-from)
+    (λ c. search for-pipe-from)
+    (λ c. search for-pipe-from))

@@ -1,0 +1,17 @@
+use Rattle.lines.proofs.LineNeeds.{for-ending}
+use Rattle.lines.proofs.line.ending.Statement.{statement}
+use Rattle.lines.proofs.line.ending.Tie as tie
+
+pub ending-spec : {M : Type 1} → statement M
+ending-spec =
+    tie.close
+    (tie.spec
+    (λ c. search for-ending)
+    (λ c. search for-ending)
+    (λ c. search for-ending)
+    (λ c. search for-ending)
+    (λ c. search for-ending)
+    (λ c. search for-ending)
+    (λ c. search for-ending)
+    (λ c. search for-ending)
+    (λ c. search for-ending))

@@ -1,0 +1,12 @@
+use Rattle.lines.proofs.LineNeeds.{for-line-at}
+use Rattle.lines.proofs.line.line_at.Statement.{statement}
+use Rattle.lines.proofs.line.line_at.Tie as tie
+
+pub line-at-spec : {M : Type 1} → statement M
+line-at-spec =
+    tie.close
+    (tie.spec
+    (λ c. search for-line-at)
+    (λ c. search for-line-at)
+    (λ c. search for-line-at)
+    (λ c. search for-line-at))

@@ -1,0 +1,27 @@
+use Rattle.lines.proofs.LineNeeds.{for-line-start}
+use Prim.Native.Nat.{_-_, _≤_, _+_}
+use mathlib.Core.Path.{_≡_}
+use lib.ListN.{length, drop}
+use Rattle.lines.specs.Inside.{startOf}
+use Rattle.lines.proofs.line.line_start.Statement.{statement}
+use Rattle.lines.proofs.line.line_start.Tie as tie
+
+abbrev Inv-loop : tie.InvT-loop
+Inv-loop file k at₀ left₀ at left = (at ≤ length file) × (startOf k file ≡ at + startOf left (drop at file))
+
+abbrev μ-loop : tie.MeasureT-loop
+μ-loop file k at₀ left₀ at left = length file - at
+
+pub line-start-spec : {M : Type 1} → statement M
+line-start-spec =
+    tie.close
+    (tie.spec
+    Inv-loop
+    μ-loop
+    (λ c. search for-line-start)
+    (λ c. search for-line-start)
+    (λ c. search for-line-start)
+    (λ c. search for-line-start)
+    (λ c. search for-line-start)
+    (λ c. search for-line-start)
+    (λ c. search for-line-start))

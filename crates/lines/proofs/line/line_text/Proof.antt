@@ -1,0 +1,17 @@
+use Rattle.lines.proofs.LineNeeds.{for-line-text}
+use Rattle.lines.proofs.line.line_text.Statement.{statement}
+use Rattle.lines.proofs.line.line_text.Tie as tie
+
+pub line-text-spec : {M : Type 1} → statement M
+line-text-spec =
+    tie.close
+    (tie.spec
+    (λ c. search for-line-text)
+    (λ c. search for-line-text)
+    (λ c. search for-line-text)
+    (λ c. search for-line-text)
+    (λ c. search for-line-text)
+    (λ c. search for-line-text)
+    (λ c. search for-line-text)
+    (λ c. search for-line-text)
+    (λ c. search for-line-text))

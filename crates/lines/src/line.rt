@@ -1,0 +1,89 @@
+// The lines of a file: where each starts and ends.
+use crate::LineAt;
+ghost use mathlib.Core.Path.{_≡_};
+ghost use Prim.Native.Nat.{_≤_, _+_, _-_};
+ghost use lib.ListN.{drop, length};
+ghost use Rattle.lines.specs.Lines.{endingOf, textLen, LineIs, textAt};
+ghost use Rattle.lines.specs.Inside.{startOf};
+
+// How many bytes the line ending at a position has, 0 for none.
+fn ending(file: &[u8], at: usize) -> usize
+    ensures { λ r. ⌜ r ≡ endingOf (drop at (now (file .entry))) ⌝ }
+    ensures { λ r. ⌜ r ≤ length (now (file .entry)) - at ⌝ }
+{
+    if file.len() <= at {
+        return 0;
+    }
+    let b = file[at];
+    if b == b'\n' {
+        return 1;
+    }
+    if b != b'\r' {
+        return 0;
+    }
+    let n = at + 1;
+    if file.len() <= n {
+        return 0;
+    }
+    if file[n] != b'\n' {
+        return 0;
+    }
+    2
+}
+
+// Where the text of the line that starts at a position ends.
+fn text_end(file: &[u8], at: usize) -> usize
+    ensures { λ r. ⌜ r ≡ at + textLen (drop at (now (file .entry))) ⌝ }
+{
+    let mut i = at;
+    while i < file.len() {
+        let n = ending(file, i);
+        if n != 0 {
+            return i;
+        }
+        i += 1;
+    }
+    i
+}
+
+// The line that starts at a position.
+pub fn line_at(file: &[u8], at: usize) -> LineAt
+    ensures { λ r. ⌜ LineIs (now (file .entry)) at r ⌝ }
+{
+    let end = text_end(file, at);
+    let n = ending(file, end);
+    LineAt {
+        end,
+        next: end + n,
+        lf: n != 0,
+    }
+}
+
+// Where the line after k lines starts; the file's end where there is none.
+fn line_start(file: &[u8], k: usize) -> usize
+    ensures { λ r. ⌜ r ≡ startOf k (now (file .entry)) ⌝ }
+    ensures { λ r. ⌜ r ≤ length (now (file .entry)) ⌝ }
+{
+    let mut at = 0;
+    let mut left = k;
+    while at < file.len() {
+        if left == 0 {
+            return at;
+        }
+        at = line_at(file, at).next;
+        left -= 1;
+    }
+    at
+}
+
+// The text of line n, counted from 1; empty where there is none.
+pub(crate) fn line_text(file: &[u8], n: usize) -> &[u8]
+    ensures { λ r. ⌜ now r ≡ textAt (now (file .entry)) n ⌝ }
+{
+    if n == 0 {
+        return &file[..0];
+    }
+    let at = line_start(file, n - 1);
+    let end = line_at(file, at).end;
+    &file[at..end]
+}

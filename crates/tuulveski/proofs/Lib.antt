@@ -1,0 +1,5 @@
+pub mod Cases
+pub mod AnswerLaws
+pub mod FileLaws
+pub mod RunLaws
+pub mod DemandLaws

@@ -1,0 +1,4 @@
+pub mod Answers
+pub mod Runs
+pub mod Examples
+pub mod Demands

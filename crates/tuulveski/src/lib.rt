@@ -1,0 +1,21 @@
+// The check of a submission: one call over file, code book, ledger, findings area and today's date.
+
+// The answers, by document 01's names; `numbersOf` in specs/ gives the paper's numbers of each.
+pub enum Answer {
+    Accepted {
+        added: usize,
+        changed: usize,
+        deleted: usize,
+        not_immunized: usize,
+    },
+    Date,
+    Long,
+    Book,
+    Ledger,
+    Shape {
+        line: usize,
+        cause: u8,
+    },
+    Findings(usize),
+    Full,
+}
