@@ -272,7 +272,87 @@ def book_cases():
     return cases
 
 
+# The ledger
+
+
+def slots(ledger):
+    return [ledger[i:i + 38] for i in range(0, len(ledger), 38)]
+
+
+def event_ok(key):
+    return all(48 <= b <= 57 for b in key[:9]) and is_date(key[9:17]) and is_padded(key[17:])
+
+
+def ledger_ok(ledger):
+    if len(ledger) % 38 or len(ledger) // 38 > 100000:
+        return False
+    live = [s for s in slots(ledger) if s[0] == 1]
+    ordered = all(a < b for a, b in zip(live, live[1:])) and slots(ledger)[:len(live)] == live
+    free = slots(ledger)[len(live):]
+    return ordered and all(event_ok(s[1:]) for s in live) and all(s == bytes(38) for s in free)
+
+
+def event_at(file, at):
+    line = file[at:].split(b"\n")[0]
+    fields = line.split(b"|")[:-1] + [b""] * 8
+    return pad(9, fields[2]) + pad(8, fields[5]) + pad(20, fields[7])
+
+
+def live_in(ledger):
+    return [s[1:] for s in slots(ledger) if s[0] == 1]
+
+
+def event(uli, day, vaccine=b"TESTV"):
+    return pad(9, uli) + pad(8, day) + pad(20, vaccine)
+
+
+def ii(uli, day, vaccine=b"TESTV"):
+    return b"II|2|" + uli + b"|A||" + day + b"||" + vaccine + b"|LA|IM|50|0.5|ML|GSK|L1||||||||"
+
+
+def ledger_cases():
+    names = [(b"000000001", b"20220901"), (b"000000001", b"20220902"), (b"000000002", b"20220901"), (b"123456789", b"20220901"), (b"123456789", b"20220902"), (b"999999999", b"21991231")]
+    file = b"".join(ii(u, d) + b"\n" for u, d in names) + ii(b"123456789", b"20220901", b"TESTW") + b"\n"
+    starts = [i for i in range(len(file)) if i == 0 or file[i - 1:i] == b"\n"]
+    ev = [event_at(file, p) for p in starts]
+    assert ev[0] == event(*names[0]) and ev[6] == event(b"123456789", b"20220901", b"TESTW")
+
+    def ledger(*events):
+        return b"".join(b"\x01" + e for e in events) + bytes(38 * (3 - len(events)))
+
+    def case(lent, adds=(), deletes=()):
+        asked = part(file) + part(b"".join(struct.pack("<I", starts[i]) for i in adds)) + part(b"".join(struct.pack("<I", starts[i]) for i in deletes))
+        ok = ledger_ok(lent)
+        out = b"sound " + num(len(live_in(lent))) if ok else b"malformed "
+        if len(lent) == 114:
+            assert ok or not adds and not deletes
+            live = live_in(lent) if ok else []
+            out += b"".join(yes(ev[i] in live) for i in adds)
+            places = ([starts[i] for i in adds] + [0] * 4)[:4]
+            out += yes(True) + b"".join(num(p) for p in sorted(places, key=lambda p: event_at(file, p)))
+            after = sorted([e for e in live if e not in [ev[i] for i in deletes]] + [ev[i] for i in adds])
+            rising = lambda ps: all(ev[a] < ev[b] for a, b in zip(ps, ps[1:]))
+            in_order = [s[:1] for s in slots(lent)] == sorted([s[:1] for s in slots(lent)], reverse=True)
+            fit = rising(adds) and rising(deletes) and len(after) <= 3
+            if ok:
+                out += yes(fit) + b"[" + (ledger(*after) if fit else lent) + b"] "
+            else:
+                out = None
+        return part(lent) + part(asked), out
+
+    cases = [case(ledger()), case(ledger(), [3]), case(ledger(), [0, 3, 4]), case(ledger(), [0, 1, 2, 3]), case(ledger(ev[3]), [0]), case(ledger(ev[0]), [3]), case(ledger(ev[0], ev[3]), [1], [0]),
+             case(ledger(ev[0], ev[2], ev[3]), [1], [2]), case(ledger(ev[0], ev[2], ev[3]), [1]), case(ledger(ev[0], ev[2], ev[3]), [], [0, 2, 3]), case(ledger(ev[0], ev[2], ev[3]), [1, 4, 5], [0, 2, 3]),
+             case(ledger(ev[0], ev[2], ev[3]), [], [1]), case(ledger(), [4, 3]), case(ledger(), [3, 3]), case(ledger(ev[0], ev[3]), [], [3, 0]), case(ledger(ev[3]), [6], [3]), case(ledger(ev[3], ev[6]), [5], [3, 6]),
+             case(ledger(ev[5]), [0, 1], []), case(ledger(ev[0], ev[1], ev[2]), [3, 4, 5], [0, 1, 2])]
+    for lent in (b"", bytes(38), bytes(76), b"\x01" + ev[0], bytes(37), bytes(39), bytes(37) + b"\x01", b"\x02" + ev[0], bytes(38) + b"\x01" + ev[0], b"\x01" + ev[1] + b"\x01" + ev[0], (b"\x01" + ev[0]) * 2,
+                 b"\x01" + event(b"12345678x", b"20220901"), b"\x01" + event(b"123456789", b"20220230"), b"\x01" + event(b"123456789", b"20220901", b""), b"\x01" + event(b"123456789", b"20220901", b"A B"),
+                 b"\x01" + event(b"123456789", b"17991231"), b"\x01" + event(b"123456789", b"20220901", b"V" * 20), b"\x01" + event(b"123456789", b"20220901", b"\x7f"), b"\x01" + event(b"000000000", b"18000101", b"!")):
+        cases.append(case(lent))
+    return cases
+
+
 if __name__ == "__main__":
     write("house_vectors", house_cases())
     write("lines_vectors", lines_cases())
     write("book_vectors", book_cases())
+    write("ledger_vectors", ledger_cases())

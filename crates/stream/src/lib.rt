@@ -81,6 +81,12 @@ pub fn number_at(s: &[u8], at: usize) -> u32
     length_at(s, at) as u32
 }
 
+pub fn wide_number(n: u32) -> usize
+    ensures { λ r. ⌜ r ≡ n ⌝ }
+{
+    n as usize
+}
+
 // Prints a number and a blank.
 pub fn say(n: u64) {
     io::print_decimal(1, n);
