@@ -1,0 +1,37 @@
+use Rattle.book_vectors.proofs.Loops.{for-cases}
+use Prim.Native.Nat.{_-_, _≤_}
+use lib.ListN.{length}
+use Rattle.book_vectors.proofs.say_asked.Statement.{statement}
+use Rattle.book_vectors.proofs.say_asked.Tie as tie
+
+abbrev Inv-loop : tie.InvT-loop
+Inv-loop book sections asks at₀ at = at ≤ length asks
+
+abbrev μ-loop : tie.MeasureT-loop
+μ-loop book sections asks at₀ at = length asks - at
+
+pub say-asked-spec : {M : Type 1} → statement M
+say-asked-spec =
+    tie.close
+    (tie.spec
+    Inv-loop
+    μ-loop
+    (λ c. search for-cases)
+    (λ c. search for-cases)
+    (λ c. search for-cases)
+    (λ c. search for-cases)
+    (λ c. search for-cases)
+    (λ c. search for-cases)
+    (λ c. search for-cases)
+    (λ c. search for-cases)
+    (λ c. search for-cases)
+    (λ c. search for-cases)
+    (λ c. search for-cases)
+    (λ c. search for-cases)
+    (λ c. search for-cases)
+    (λ c. search for-cases)
+    (λ c. search for-cases)
+    (λ c. search for-cases)
+    (λ c. search for-cases)
+    (λ c. search for-cases)
+    (λ c. search for-cases))

@@ -1,0 +1,28 @@
+use Rattle.ledger_vectors.proofs.Loops.{for-cases}
+use Prim.Native.Nat.{_-_, _≤_}
+use Rattle.ledger_vectors.proofs.say_live.Statement.{statement}
+use Rattle.ledger_vectors.proofs.say_live.Tie as tie
+
+abbrev Inv-loop : tie.InvT-loop
+Inv-loop ledger live file places i₀ i = i ≤ 4
+
+abbrev μ-loop : tie.MeasureT-loop
+μ-loop ledger live file places i₀ i = 4 - i
+
+pub say-live-spec : {M : Type 1} → statement M
+say-live-spec =
+    tie.close
+    (tie.spec
+    Inv-loop
+    μ-loop
+    (λ c. search for-cases)
+    (λ c. search for-cases)
+    (λ c. search for-cases)
+    (λ c. search for-cases)
+    (λ c. search for-cases)
+    (λ c. search for-cases)
+    (λ c. search for-cases)
+    (λ c. search for-cases)
+    (λ c. search for-cases)
+    (λ c. search for-cases)
+    (λ c. search for-cases))

@@ -1,0 +1,26 @@
+use Rattle.ledger_vectors.proofs.Loops.{for-cases}
+use Prim.Native.Nat.{_-_, _≤_}
+use mathlib.Core.Path.{_≡_}
+use lib.ListN.{length}
+use Rattle.ledger_vectors.proofs.three_slots.Statement.{statement}
+use Rattle.ledger_vectors.proofs.three_slots.Tie as tie
+
+abbrev Inv-loop : tie.InvT-loop
+Inv-loop lent out₀ i₀ out i = i ≤ 114
+
+abbrev μ-loop : tie.MeasureT-loop
+μ-loop lent out₀ i₀ out i = 114 - i
+
+pub three-slots-spec : {M : Type 1} → statement M
+three-slots-spec =
+    tie.close
+    (tie.spec
+    Inv-loop
+    μ-loop
+    (λ c. search for-cases)
+    (λ c. search for-cases)
+    (λ c. search for-cases)
+    (λ c. search for-cases)
+    (λ c. search for-cases)
+    (λ c. search for-cases)
+    (λ c. search for-cases))

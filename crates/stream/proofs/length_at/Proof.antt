@@ -1,0 +1,26 @@
+use Rattle.stream.proofs.PartNeeds.{for-parts}
+use Rattle.stream.proofs.length_at.Statement.{statement}
+use Rattle.stream.proofs.length_at.Tie as tie
+
+pub length-at-spec : {M : Type 1} → statement M
+length-at-spec =
+    tie.close
+    (tie.spec
+    (λ c. search for-parts)
+    (λ c. search for-parts)
+    (λ c. search for-parts)
+    (λ c. search for-parts)
+    (λ c. search for-parts)
+    (λ c. search for-parts)
+    (λ c. search for-parts)
+    (λ c. search for-parts)
+    (λ c. search for-parts)
+    (λ c. search for-parts)
+    (λ c. search for-parts)
+    (λ c. search for-parts)
+    (λ c. search for-parts)
+    (λ c. search for-parts)
+    (λ c. search for-parts)
+    (λ c. search for-parts)
+    (λ c. search for-parts)
+    (λ c. search for-parts))

@@ -1,0 +1,13 @@
+use Rattle.stream.proofs.PartNeeds.{for-parts}
+use Rattle.stream.proofs.number_at.Statement.{statement}
+use Rattle.stream.proofs.number_at.Tie as tie
+
+pub number-at-spec : {M : Type 1} → statement M
+number-at-spec =
+    tie.close
+    (tie.spec
+    (λ c. search for-parts)
+    (λ c. search for-parts)
+    (λ c. search for-parts)
+    (λ c. search for-parts)
+    (λ c. search for-parts))

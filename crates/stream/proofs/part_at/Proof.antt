@@ -1,0 +1,16 @@
+use Rattle.stream.proofs.PartNeeds.{for-parts}
+use Rattle.stream.proofs.part_at.Statement.{statement}
+use Rattle.stream.proofs.part_at.Tie as tie
+
+pub part-at-spec : {M : Type 1} → statement M
+part-at-spec =
+    tie.close
+    (tie.spec
+    (λ c. search for-parts)
+    (λ c. search for-parts)
+    (λ c. search for-parts)
+    (λ c. search for-parts)
+    (λ c. search for-parts)
+    (λ c. search for-parts)
+    (λ c. search for-parts)
+    (λ c. search for-parts))
