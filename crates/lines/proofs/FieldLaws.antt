@@ -4,13 +4,14 @@ use mathlib.Core.Path.{_≡_, refl, sym, _∙_}
 use mathlib.Core.Bool.{Bool, true, false, cond}
 use mathlib.Core.List.{List, [], _∷_}
 use Prim.Native.Nat.{ℕ, zero, suc, _≤_, _<_}
+use native.Mathlib.Nat.{add-zero}
 use native.Mathlib.Omega.{arith}
 use lib.Dec.{eqb}
-use lib.ListN.{length, take, drop}
-use lib.Seq.{drop-nil}
+use lib.ListN.{length, getD, take, drop}
+use lib.Seq.{drop-nil, getD-drop}
 use Rattle.house.specs.Text.{Text}
-use Rattle.lines.specs.Lines.{pipe, lengthen, fieldsOf}
-use Rattle.lines.specs.Inside.{pipeLen, fieldsLen}
+use Rattle.lines.specs.Lines.{pipe, lengthen, fieldsOf, fieldsLen}
+use Rattle.lines.specs.Inside.{pipeLen}
 
 -- a byte before the fields adds none and moves none but the first
 pub lengthen-length : (b : ℕ) (fs : List Text) → length (lengthen b fs) ≡ length fs
@@ -65,3 +66,6 @@ fields-le (suc f) (b ∷ t) = go (eqb b pipe) (fields-le f t) (fields-le (suc f)
     go : (v : Bool) → fieldsLen f t ≤ length t → fieldsLen (suc f) t ≤ length t → suc (cond v (fieldsLen f t) (fieldsLen (suc f) t)) ≤ suc (length t)
     go true h k = omega arith
     go false h k = omega arith
+
+pub field-first : (k : ℕ) (t : Text) → getD (fieldsOf t) k [] ≡ getD (fieldsOf (drop (fieldsLen k t) t)) 0 []
+field-first k t = rw (fields-after, getD-drop, add-zero)

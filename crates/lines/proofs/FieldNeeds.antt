@@ -1,22 +1,23 @@
--- What each need of `count_fields`, `field_start`, `pipe_from`, `field_of`, `field` and `has_field` asks.
+-- What each need of `count_fields`, `field_start`, `pipe_from`, `field_of`, `field`, `has_field` and `field_position` asks.
 -- Assumes nothing.
-use mathlib.Core.Path.{_≡_, refl, _∙_}
-use mathlib.Core.Bool.{false, cond}
+use mathlib.Core.Path.{_≡_, refl, sym, _∙_}
+use mathlib.Core.Bool.{Bool, true, false, cond}
 use mathlib.Core.List.{[], _∷_}
 use Prim.Native.Nat.{ℕ, zero, suc, _+_, _-_, _≤_, _<_}
 use native.Mathlib.Nat.{zero-add, add-zero, add-sub-cancel-left}
 use native.Mathlib.Numerals.{sub-one}
 use native.Mathlib.Omega.{arith}
 use borrow.Author.Needs.{needs}
-use borrow.Author.Tests.{eq-eqb, ne-eqb}
+use borrow.Author.Tests.{eq-eqb, ne-eqb, ltb-true}
 use lib.Dec.{eqb, ltb}
 use lib.ListN.{length, getD, take, drop, length-drop}
-use lib.Seq.{getD-drop}
 use Rattle.house.specs.Text.{Text}
+use Rattle.house.proofs.Small.{clash}
 use Rattle.house.proofs.Suffix.{drop-here, drop-past}
-use Rattle.lines.specs.Lines.{pipe, fieldsOf, fieldOf, textAt, fieldText, fieldThere}
-use Rattle.lines.specs.Inside.{pipeLen, fieldsLen}
-use Rattle.lines.proofs.FieldLaws.{lengthen-length, fields-first, fields-none, fields-after, fields-le}
+use Rattle.lines.specs.Lines.{pipe, textLen, fieldsOf, fieldOf, textAt, fieldText, fieldThere, linesLen, fieldsLen, fieldPosition}
+use Rattle.lines.specs.Inside.{pipeLen}
+use Rattle.lines.proofs.LineLaws.{text-le, text-after}
+use Rattle.lines.proofs.FieldLaws.{lengthen-length, fields-first, fields-none, fields-le, field-first}
 
 -- count_fields: the count x, from a position i with n fields counted; a turn leaves m
 pub count-holds : (t : Text) → length (fieldsOf t) ≡ 0 + length (fieldsOf t)
@@ -96,19 +97,19 @@ field-pred t zero n = absurd (n refl)
 field-pred t (suc f) n = rw sub-one
 
 module _ (t : Text) (f a e : ℕ) (n : f ≡ 0 → ⊥) (p : a ≡ fieldsLen (f - 1) t) (q : e ≡ a + pipeLen (drop a t)) where
-  field-first : fieldOf t f ≡ getD (fieldsOf (drop a t)) 0 []
-  field-first = field-pred t f n ∙ rw (p, fields-after, getD-drop, add-zero)
+  is-first : fieldOf t f ≡ getD (fieldsOf (drop a t)) 0 []
+  is-first = rw p (field-pred t f n ∙ field-first (f - 1) t)
 
   pub field-there : e < length t → take (e - a) (drop a t) ≡ fieldOf t f
   field-there h =
       let k : pipeLen (drop a t) < length (drop a t) = omega (arith, length-drop a t) in
-      rw (field-first, fields-first (drop a t) k, q, add-sub-cancel-left)
+      rw (is-first, fields-first (drop a t) k, q, add-sub-cancel-left)
 
   pub field-absent : length t ≤ e → [] ≡ fieldOf t f
   field-absent h =
       let l : a ≤ length t = rw p (fields-le (f - 1) t) in
       let k : length (drop a t) ≤ pipeLen (drop a t) = omega (arith, length-drop a t) in
-      rw (field-first, fields-none (drop a t) k)
+      rw (is-first, fields-none (drop a t) k)
 
 pub ruleset for-field-of = (needs, field-zero, field-there, field-absent)
 
@@ -127,3 +128,40 @@ there-is s n t m zero x e z = absurd (z refl)
 there-is s n t m (suc f) x e z = rw (e, x, sub-one)
 
 pub ruleset for-field = (needs, field-text, there-zero, there-is)
+
+-- field_position: of a field that is there, the line's start a and the field's start b in the line's text t
+module _ (s : Text) (n f : ℕ) (y : Bool) (e : y ≡ fieldThere s n f) where
+  pub position-none : y ≡ false → 0 ≡ fieldPosition s n f
+  unfolding fieldPosition
+  position-none h = rw (← e, h)
+
+  module _ (h : y ≡ true) where
+    pub line-one : 1 ≤ n
+    unfolding fieldThere textAt fieldsOf
+    line-one = go n f (sym e ∙ h)
+      where
+        go : (m g : ℕ) → fieldThere s m g ≡ true → 1 ≤ m
+        go zero zero k = clash (cc)
+        go zero (suc g) k = absurd (omega (arith, ltb-true g 0 k))
+        go (suc m) g k = omega arith
+
+    pub field-one : 1 ≤ f
+    unfolding fieldThere
+    field-one = go f (sym e ∙ h)
+      where
+        go : (g : ℕ) → fieldThere s n g ≡ true → 1 ≤ g
+        go zero k = clash (cc)
+        go (suc g) k = omega arith
+
+    module _ (a b : ℕ) (t : Text) (p : a ≡ linesLen (n - 1) s) (x : t ≡ textAt s n) (q : b ≡ fieldsLen (f - 1) t) where
+      pub position-is : a + b ≡ fieldPosition s n f
+      unfolding fieldPosition
+      position-is = rw (← e, h, p, q, x)
+
+      pub position-fits : a ≤ length s → length s < 18446744073709551616 → a + b < 18446744073709551616
+      unfolding textLen
+      position-fits i j =
+          let l : length t ≡ textLen (drop a s) = rw (x, p, text-after s n (λ z. omega (arith, line-one))) in
+          omega (arith, l, fields-le (f - 1) t, text-le (drop a s), length-drop a s)
+
+pub ruleset for-field-position = (needs, position-none, line-one, field-one, position-is, position-fits)

@@ -2,6 +2,7 @@
 pub mod LineLaws
 pub mod PartLaws
 pub mod FieldLaws
+pub mod PositionLaws
 pub mod ShapeLaws
 -- What the functions' own needs ask
 mod LineNeeds

@@ -1,19 +1,20 @@
 -- The lines of a file: the first line, and the lines after it.
 -- Assumes nothing.
-use mathlib.Core.Path.{_≡_, refl, sym, ap}
+use mathlib.Core.Path.{_≡_, refl, sym, ap, _∙_}
 use mathlib.Core.Bool.{Bool, true, false, not}
 use mathlib.Core.List.{List, [], _∷_}
-use Prim.Native.Nat.{ℕ, suc, _+_, _-_, _≤_, _<_}
+use Prim.Native.Nat.{ℕ, zero, suc, _+_, _-_, _≤_, _<_}
 use native.Mathlib.Nat.{suc-add, add-sub-cancel-left}
+use native.Mathlib.Numerals.{sub-one}
 use native.Mathlib.Omega.{arith}
 use borrow.Author.Tests.{eqb-true}
 use lib.Dec.{eqb}
 use lib.ListN.{length, getD, take, drop, length-drop}
-use lib.Seq.{drop-drop}
+use lib.Seq.{drop-drop, drop-nil}
 use Rattle.house.specs.Text.{Text}
 use Rattle.house.proofs.Suffix.{drop-past}
 use Rattle.lines.specs.declared.LineAt.{LineAt}
-use Rattle.lines.specs.Lines.{LF, CR, Line, noLine, lfNext, endingOf, grow, byEnding, linesOf, lineOf, textLen, lineLen, lineAt, LineIs}
+use Rattle.lines.specs.Lines.{LF, CR, Line, noLine, lfNext, endingOf, grow, byEnding, linesOf, lineOf, textLen, lineLen, lineAt, LineIs, textAt, linesLen}
 
 -- What holds of every text: of one of no bytes; with it, of one with a byte of text before it, with an LF, with a CR before an LF
 module _ (P : Text → Type 0) (none : P []) (on : (b : ℕ) (s : Text) → endingOf (b ∷ s) ≡ 0 → P s → P (b ∷ s))
@@ -103,6 +104,23 @@ lines-step = by-ending Step (λ h. absurd (omega arith)) step-more (λ s h k. re
 pub lines-past : (s : Text) (at : ℕ) → length s ≤ at → linesOf (drop at s) ≡ []
 unfolding linesOf
 lines-past s at h = rw (drop-past s at h)
+
+-- the text of line n is that of the line which starts behind the lines before it
+no-text : (k : ℕ) → getD (linesOf []) k noLine .text ≡ lineOf [] .text
+unfolding linesOf lineOf
+no-text k = refl
+
+text-behind : (k : ℕ) (s : Text) → getD (linesOf s) k noLine .text ≡ lineOf (drop (linesLen k s) s) .text
+unfolding linesLen
+text-behind zero [] = no-text 0
+text-behind zero (b ∷ s) = rw (lines-step (b ∷ s) (omega arith))
+text-behind (suc k) [] = simp drop-nil (no-text (suc k))
+text-behind (suc k) (b ∷ s) = rw (lines-step (b ∷ s) (omega arith)) (text-behind k (drop (lineLen (b ∷ s)) (b ∷ s)) ∙ rw drop-drop)
+
+pub text-after : (s : Text) (n : ℕ) → (n ≡ 0 → ⊥) → textAt s n ≡ lineOf (drop (linesLen (n - 1) s) s) .text
+unfolding textAt
+text-after s zero z = absurd (z refl)
+text-after s (suc k) z = rw sub-one (text-behind k s)
 
 -- The line that starts at a position. The equation alone says where it lies
 pub line-is : (s : Text) (at : ℕ) (q : LineAt) → q ≡ lineAt at (drop at s) → LineIs s at q

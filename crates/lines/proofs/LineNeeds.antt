@@ -15,9 +15,8 @@ use lib.Seq.{drop-drop, drop-nil}
 use Rattle.house.specs.Text.{Text}
 use Rattle.house.proofs.Suffix.{drop-here, drop-past}
 use Rattle.lines.specs.declared.LineAt.{LineAt}
-use Rattle.lines.specs.Lines.{LF, CR, noLine, lfNext, endingOf, byEnding, linesOf, lineOf, textLen, lineLen, lineAt, LineIs, textAt}
-use Rattle.lines.specs.Inside.{startOf}
-use Rattle.lines.proofs.LineLaws.{by-ending, text-more, ended-is, lines-step, line-is, at-next, at-text, left-falls}
+use Rattle.lines.specs.Lines.{LF, CR, lfNext, endingOf, byEnding, linesOf, lineOf, textLen, lineLen, lineAt, LineIs, textAt, linesLen}
+use Rattle.lines.proofs.LineLaws.{by-ending, text-more, ended-is, line-is, at-next, at-text, left-falls, text-after}
 
 -- ending
 module _ (s : Text) (i : ℕ) where
@@ -84,51 +83,38 @@ line-found s at t e p q =
 pub ruleset for-line-at = (needs, line-found)
 
 -- line_start: the place x where the line starts, from a position at with k lines left
-start-nil : (k : ℕ) → startOf k [] ≡ 0
-unfolding startOf lineLen textLen lineOf linesOf endingOf
+start-nil : (k : ℕ) → linesLen k [] ≡ 0
+unfolding linesLen lineLen textLen lineOf linesOf endingOf
 start-nil zero = refl
 start-nil (suc k) = simp (drop-nil, start-nil k)
 
-start-suc : (k : ℕ) (s : Text) → (k ≡ 0 → ⊥) → startOf k s ≡ lineLen s + startOf (k - 1) (drop (lineLen s) s)
-unfolding startOf
+start-suc : (k : ℕ) (s : Text) → (k ≡ 0 → ⊥) → linesLen k s ≡ lineLen s + linesLen (k - 1) (drop (lineLen s) s)
+unfolding linesLen
 start-suc zero s n = absurd (n refl)
 start-suc (suc k) s n = rw sub-one
 
-pub start-holds : (s : Text) (k : ℕ) → startOf k s ≡ 0 + startOf k s
+pub start-holds : (s : Text) (k : ℕ) → linesLen k s ≡ 0 + linesLen k s
 start-holds s k = simp zero-add
 
-module _ (s : Text) (at k x : ℕ) (inv : x ≡ at + startOf k (drop at s)) where
+module _ (s : Text) (at k x : ℕ) (inv : x ≡ at + linesLen k (drop at s)) where
   pub start-done : k ≡ 0 → at ≡ x
-  unfolding startOf
+  unfolding linesLen
   start-done e = rw (inv, e, add-zero)
 
   pub start-end : length s ≤ at → at ≡ x
   start-end h = rw (inv, drop-past s at h, start-nil, add-zero)
 
-  pub start-on : (q : LineAt) → LineIs s at q → (k ≡ 0 → ⊥) → x ≡ q .next + startOf (k - 1) (drop (q .next) s)
+  pub start-on : (q : LineAt) → LineIs s at q → (k ≡ 0 → ⊥) → x ≡ q .next + linesLen (k - 1) (drop (q .next) s)
   start-on q e n = rw (inv, start-suc k (drop at s) n, drop-drop, at-next s at q e) (omega arith)
 
 pub ruleset for-line-start = (needs, start-holds, start-done, start-end, start-on, left-falls)
 
--- line_text. The text of line k + 1 is that of the line which starts after k lines
-no-text : (k : ℕ) → getD (linesOf []) k noLine .text ≡ lineOf [] .text
-unfolding linesOf lineOf
-no-text k = refl
-
-text-after : (k : ℕ) (s : Text) → getD (linesOf s) k noLine .text ≡ lineOf (drop (startOf k s) s) .text
-unfolding startOf
-text-after zero [] = no-text 0
-text-after zero (b ∷ s) = rw (lines-step (b ∷ s) (omega arith))
-text-after (suc k) [] = simp drop-nil (no-text (suc k))
-text-after (suc k) (b ∷ s) = rw (lines-step (b ∷ s) (omega arith)) (text-after k (drop (lineLen (b ∷ s)) (b ∷ s)) ∙ rw drop-drop)
-
+-- line_text
 pub text-none : (s : Text) (n : ℕ) → n ≡ 0 → [] ≡ textAt s n
 unfolding textAt
 text-none s n e = rw e
 
-pub text-part : (s : Text) (n at : ℕ) (q : LineAt) → (n ≡ 0 → ⊥) → at ≡ startOf (n - 1) s → LineIs s at q → take (q .end - at) (drop at s) ≡ textAt s n
-unfolding textAt
-text-part s zero at q z a e = absurd (z refl)
-text-part s (suc k) at q z a e = at-text s at q e ∙ rw (a, sub-one) (sym (text-after k s))
+pub text-part : (s : Text) (n at : ℕ) (q : LineAt) → (n ≡ 0 → ⊥) → at ≡ linesLen (n - 1) s → LineIs s at q → take (q .end - at) (drop at s) ≡ textAt s n
+text-part s n at q z a e = at-text s at q e ∙ rw (a, text-after s n z)
 
 pub ruleset for-line-text = (needs, text-none, text-part)

@@ -7,7 +7,7 @@ use lib.ListN.{length}
 use Rattle.house.specs.Text.{Text}
 use Rattle.lines.specs.declared.LineAt.{LineAt}
 use Rattle.lines.specs.declared.Shape.{Shape}
-use Rattle.lines.specs.Lines.{fieldsOf, fieldOf, fieldText, fieldThere, LineIs}
+use Rattle.lines.specs.Lines.{fieldsOf, fieldOf, fieldText, fieldThere, fieldPosition, LineIs}
 use Rattle.lines.specs.Records.{recordOf}
 use Rattle.lines.specs.Shape.{shapeOf}
 
@@ -34,3 +34,6 @@ field s n f r q = one
 
 has-field : (s : Text) (n f : ℕ) (r q : Bool) → r ≡ fieldThere s n f → q ≡ fieldThere s n f → r ≡ q
 has-field s n f r q = one
+
+field-position : (s : Text) (n f : ℕ) (r q : ℕ) → r ≡ fieldPosition s n f → q ≡ fieldPosition s n f → r ≡ q
+field-position s n f r q = one

@@ -1,4 +1,4 @@
--- The lines of parts of a file: each line has its LF in the part before, and a line comes after it.
+-- The lines of parts of a file: where each line of a part has its LF, the lines of the next part come after them.
 -- Assumes nothing.
 use mathlib.Core.Path.{_≡_, refl, sym, ap, _∙_}
 use mathlib.Core.Bool.{Bool, true, false}
@@ -18,24 +18,23 @@ use Rattle.lines.specs.Inside.{part, whole}
 use Rattle.lines.proofs.LineLaws.{by-ending, line-more, len-more, line-pos, lines-step, lines-past, at-next, at-lf, at-line, lines-on}
 
 -- a byte of text before a text
-module _ (b : ℕ) (s : Text) (e : endingOf (b ∷ s) ≡ 0) where
-  lines-more : linesOf (b ∷ s) ≡ grow b (linesOf s)
-  unfolding linesOf byEnding
-  lines-more = rw e
-
-whole-more : (b c : ℕ) (s : Text) → endingOf (b ∷ c ∷ s) ≡ 0 → whole (b ∷ c ∷ s) ≡ whole (c ∷ s)
-unfolding whole grow
-whole-more b c s e = rw (lines-more b (c ∷ s) e, lines-step (c ∷ s) (omega arith))
+lines-more : (b : ℕ) (s : Text) → endingOf (b ∷ s) ≡ 0 → linesOf (b ∷ s) ≡ grow b (linesOf s)
+unfolding linesOf byEnding
+lines-more b s e = rw e
 
 open-last : (b : ℕ) → endingOf (b ∷ []) ≡ 0 → whole (b ∷ []) ≡ false
 unfolding whole grow linesOf
 open-last b e = rw (lines-more b [] e)
 
 -- each line of a rest has its LF too
+whole-first : (b c : ℕ) (s : Text) → endingOf (b ∷ c ∷ s) ≡ 0 → whole (b ∷ c ∷ s) ≡ whole (c ∷ s)
+unfolding whole grow
+whole-first b c s e = rw (lines-more b (c ∷ s) e, lines-step (c ∷ s) (omega arith))
+
 whole-on : (b : ℕ) (s : Text) → endingOf (b ∷ s) ≡ 0 → whole (b ∷ s) ≡ true → whole s ≡ true
 unfolding whole linesOf
 whole-on b [] e k = refl
-whole-on b (c ∷ s) e k = sym (whole-more b c s e) ∙ k
+whole-on b (c ∷ s) e k = sym (whole-first b c s e) ∙ k
 
 whole-tail : (s : Text) → whole s ≡ true → whole (drop 1 s) ≡ true
 unfolding whole linesOf byEnding endingOf lfNext
@@ -140,7 +139,7 @@ text-all =
     (λ b s e h k. rw (len-more b s e) (ap suc (h (rw (line-more b s e) at k)))) (λ s h k. clash (cc)) (λ s h k. clash (cc))
 
 -- one line on, from position at
-module _ (s : Text) (at : ℕ) (q : LineAt) (e : LineIs s at q) (h : at < length s) where
+module _ (s : Text) (at : ℕ) (q : LineAt) (e : LineIs s at q) where
   pub ended-inside : q .next < length s → q .lf ≡ true
   ended-inside k = go (q .lf) refl
     where

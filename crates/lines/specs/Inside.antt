@@ -1,13 +1,13 @@
 -- What the crate's own functions answer: cited by private contracts and by laws alone. No public contract rests on this page.
 -- Assumes nothing.
-use Prim.Native.Nat.{ℕ, zero, suc, _+_, _-_}
+use Prim.Native.Nat.{ℕ, suc, _-_}
 use mathlib.Core.Path.{_≡_}
 use mathlib.Core.Bool.{Bool, true, not, cond}
 use mathlib.Core.List.{List, [], _∷_}
 use lib.ListN.{length, take, drop}
 use lib.Dec.{eqb}
 use Rattle.house.specs.Text.{Text, all}
-use Rattle.lines.specs.Lines.{Line, pipe, linesOf, lineLen, fieldsOf}
+use Rattle.lines.specs.Lines.{Line, pipe, linesOf, fieldsOf}
 use Rattle.lines.specs.Records.{IF, recordOf, countOf}
 use Rattle.lines.specs.Shape.{follows, printable, pipeLast, causeOf}
 
@@ -19,21 +19,10 @@ part s a e = take (e - a) (drop a s)
 unfoldable pub whole : Text → Bool
 whole s = all (λ (l : Line). l .ended) (linesOf s)
 
--- where the line after k lines starts; the file's end where there is none
-unfoldable pub startOf : ℕ → Text → ℕ
-startOf zero s = 0
-startOf (suc k) s = lineLen s + startOf k (drop (lineLen s) s)
-
 -- how many bytes stand before the first pipe, or all
 unfoldable pub pipeLen : Text → ℕ
 pipeLen [] = 0
 pipeLen (b ∷ t) = cond (eqb b pipe) 0 (suc (pipeLen t))
-
--- how many bytes the first f fields have with their pipes, or all
-unfoldable pub fieldsLen : ℕ → Text → ℕ
-fieldsLen f [] = 0
-fieldsLen zero (b ∷ t) = 0
-fieldsLen (suc f) (b ∷ t) = suc (cond (eqb b pipe) (fieldsLen f t) (fieldsLen (suc f) t))
 
 -- the lowest of causes 4 to 6 at a record of kind k with n fields that follows one of kind p, 0 for none
 unfoldable pub kindCause : ℕ → ℕ → ℕ → ℕ

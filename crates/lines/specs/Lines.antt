@@ -106,3 +106,20 @@ fieldText s n f = fieldOf (textAt s n) f
 unfoldable pub fieldThere : Text → ℕ → ℕ → Bool
 fieldThere s n zero = false
 fieldThere s n (suc f) = ltb f (length (fieldsOf (textAt s n)))
+
+-- Where that part starts in the file: behind the lines before its line, and in its line behind the fields before it
+
+-- how many bytes the first k lines have with their endings
+unfoldable pub linesLen : ℕ → Text → ℕ
+linesLen zero s = 0
+linesLen (suc k) s = lineLen s + linesLen k (drop (lineLen s) s)
+
+-- how many bytes the first k fields of a line's text have with their pipes
+unfoldable pub fieldsLen : ℕ → Text → ℕ
+fieldsLen k [] = 0
+fieldsLen zero (b ∷ t) = 0
+fieldsLen (suc k) (b ∷ t) = suc (cond (eqb b pipe) (fieldsLen k t) (fieldsLen (suc k) t))
+
+-- 0 where the field is not there
+unfoldable pub fieldPosition : Text → ℕ → ℕ → ℕ
+fieldPosition s n f = cond (fieldThere s n f) (linesLen (n - 1) s + fieldsLen (f - 1) (textAt s n)) 0

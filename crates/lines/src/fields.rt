@@ -1,10 +1,11 @@
 // The fields of a line: texts that a pipe ends.
+use crate::line::line_start;
 use crate::line::line_text;
 ghost use mathlib.Core.Path.{_≡_};
 ghost use Prim.Native.Nat.{_+_};
 ghost use lib.ListN.{drop, length};
-ghost use Rattle.lines.specs.Lines.{fieldsOf, fieldOf, fieldText, fieldThere};
-ghost use Rattle.lines.specs.Inside.{pipeLen, fieldsLen};
+ghost use Rattle.lines.specs.Lines.{fieldsOf, fieldOf, fieldText, fieldThere, fieldsLen, fieldPosition};
+ghost use Rattle.lines.specs.Inside.{pipeLen};
 
 // How many fields a line's text has.
 pub fn count_fields(text: &[u8]) -> usize
@@ -62,21 +63,20 @@ pub fn field_of(text: &[u8], f: usize) -> &[u8]
     }
     let start = field_start(text, f - 1);
     let end = pipe_from(text, start);
-    if end < text.len() {
-        &text[start..end]
-    } else {
-        &text[..0]
+    if text.len() <= end {
+        return &text[..0];
     }
+    &text[start..end]
 }
 
-// The text of field f of line n, both counted from 1; empty where it is not there.
+// The text of field f of a line, both counted from 1; empty where it is not there.
 pub fn field(file: &[u8], line: usize, f: usize) -> &[u8]
     ensures { λ r. ⌜ now r ≡ fieldText (now (file .entry)) line f ⌝ }
 {
     field_of(line_text(file, line), f)
 }
 
-// Whether line n has a field f, both counted from 1.
+// Whether a line has a field f, both counted from 1.
 pub fn has_field(file: &[u8], line: usize, f: usize) -> bool
     ensures { λ r. ⌜ r ≡ fieldThere (now (file .entry)) line f ⌝ }
 {
@@ -84,4 +84,17 @@ pub fn has_field(file: &[u8], line: usize, f: usize) -> bool
         return false;
     }
     f - 1 < count_fields(line_text(file, line))
+}
+
+// Where the text of field f of a line starts in the file; 0 where it is not there.
+pub fn field_position(file: &[u8], line: usize, f: usize) -> usize
+    ensures { λ r. ⌜ r ≡ fieldPosition (now (file .entry)) line f ⌝ }
+{
+    if has_field(file, line, f) {
+        let at = line_start(file, line - 1);
+        let start = field_start(line_text(file, line), f - 1);
+        at + start
+    } else {
+        0
+    }
 }

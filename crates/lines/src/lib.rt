@@ -8,6 +8,7 @@ pub use faults::shape_of;
 pub use fields::count_fields;
 pub use fields::field;
 pub use fields::field_of;
+pub use fields::field_position;
 pub use fields::has_field;
 pub use kinds::IA;
 pub use kinds::IE;

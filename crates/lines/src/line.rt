@@ -3,8 +3,7 @@ use crate::LineAt;
 ghost use mathlib.Core.Path.{_≡_};
 ghost use Prim.Native.Nat.{_≤_, _+_, _-_};
 ghost use lib.ListN.{drop, length};
-ghost use Rattle.lines.specs.Lines.{endingOf, textLen, LineIs, textAt};
-ghost use Rattle.lines.specs.Inside.{startOf};
+ghost use Rattle.lines.specs.Lines.{endingOf, textLen, LineIs, textAt, linesLen};
 
 // How many bytes the line ending at a position has, 0 for none.
 fn ending(file: &[u8], at: usize) -> usize
@@ -59,9 +58,9 @@ pub fn line_at(file: &[u8], at: usize) -> LineAt
     }
 }
 
-// Where the line after k lines starts; the file's end where there is none.
-fn line_start(file: &[u8], k: usize) -> usize
-    ensures { λ r. ⌜ r ≡ startOf k (now (file .entry)) ⌝ }
+// Where the line behind k lines starts; the file's end where there is none.
+pub(crate) fn line_start(file: &[u8], k: usize) -> usize
+    ensures { λ r. ⌜ r ≡ linesLen k (now (file .entry)) ⌝ }
     ensures { λ r. ⌜ r ≤ length (now (file .entry)) ⌝ }
 {
     let mut at = 0;

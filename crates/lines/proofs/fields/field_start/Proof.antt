@@ -3,7 +3,7 @@ use mathlib.Core.Logic.{⊎-elim}
 use Prim.Native.Nat.{_-_, _+_}
 use mathlib.Core.Path.{_≡_}
 use lib.ListN.{length, drop}
-use Rattle.lines.specs.Inside.{fieldsLen}
+use Rattle.lines.specs.Lines.{fieldsLen}
 use Rattle.lines.proofs.fields.field_start.Statement.{statement}
 use Rattle.lines.proofs.fields.field_start.Tie as tie
 

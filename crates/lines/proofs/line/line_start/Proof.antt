@@ -2,12 +2,12 @@ use Rattle.lines.proofs.LineNeeds.{for-line-start}
 use Prim.Native.Nat.{_-_, _≤_, _+_}
 use mathlib.Core.Path.{_≡_}
 use lib.ListN.{length, drop}
-use Rattle.lines.specs.Inside.{startOf}
+use Rattle.lines.specs.Lines.{linesLen}
 use Rattle.lines.proofs.line.line_start.Statement.{statement}
 use Rattle.lines.proofs.line.line_start.Tie as tie
 
 abbrev Inv-loop : tie.InvT-loop
-Inv-loop file k at₀ left₀ at left = (at ≤ length file) × (startOf k file ≡ at + startOf left (drop at file))
+Inv-loop file k at₀ left₀ at left = (at ≤ length file) × (linesLen k file ≡ at + linesLen left (drop at file))
 
 abbrev μ-loop : tie.MeasureT-loop
 μ-loop file k at₀ left₀ at left = length file - at
