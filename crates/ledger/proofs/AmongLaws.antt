@@ -1,11 +1,11 @@
 -- Whether an event is among others, by their order, and what is left once some are deleted.
 -- Assumes nothing.
-use mathlib.Core.Path.{_≡_, refl, sym, ap, _∙_, subst}
-use mathlib.Core.Bool.{Bool, true, false, not, cond, _||_}
+use mathlib.Core.Path.{_≡_, refl, ap, _∙_, subst}
+use mathlib.Core.Bool.{Bool, true, false, not, cond}
 use mathlib.Core.List.{List, [], _∷_, _++_, append-nil}
-use Rattle.house.specs.Text.{Text, any, those, same}
+use Rattle.house.specs.Text.{Text, those, same}
 use Rattle.house.proofs.Decisions.{is-same, not-same, below-irrefl}
-use Rattle.events.specs.Inside.{Lt, Le, All, From, Over}
+use Rattle.events.specs.Inside.{Lt, Over}
 use Rattle.ledger.specs.Ledger.{isAmong, less}
 use Rattle.ledger.specs.Inside.{whole}
 

@@ -2,17 +2,17 @@
 -- Assumes nothing.
 use mathlib.Core.Path.{_≡_, refl, sym, ap, _∙_, subst}
 use mathlib.Core.Bool.{Bool, true, false, not, cond, _&&_}
-use mathlib.Core.List.{List, [], _∷_, _++_, append-assoc, map}
+use mathlib.Core.List.{List, [], _∷_, _++_, append-assoc}
 use Prim.Native.Nat.{ℕ, zero, suc, _+_, _-_, _/_, _≤_, _<_}
 use native.Mathlib.Nat.{add-zero}
 use native.Mathlib.Omega.{arith}
 use borrow.Author.Needs.{needs}
-use borrow.Author.Tests.{lt-ltb, ltb-true, ltb-false, not-true, not-false}
+use borrow.Author.Tests.{ltb-true, ltb-false, not-true, not-false}
 use lib.Dec.{ltb}
-use lib.ListN.{length, take, drop, getD, set, length-set, length-map, take-append-drop}
+use lib.ListN.{length, take, drop, getD, set, length-set, take-append-drop}
 use lib.Seq.{drop-cons, drop-set-lt, take-set-le, take-suc, take-take, take-all, getD-set-same, getD-take, length-take-le}
 use Rattle.house.specs.Text.{Text, below}
-use Rattle.house.proofs.Small.{clash, both}
+use Rattle.house.proofs.Small.{both}
 use Rattle.house.proofs.Facts.{of-true}
 use Rattle.events.specs.Events.{eventAt, eventsAt}
 use Rattle.events.specs.Sorted.{place}

@@ -1,29 +1,26 @@
 -- What each need of the functions that test a ledger's form asks.
 -- Assumes nothing.
 use mathlib.Core.Path.{_≡_, refl, sym, ap, _∙_}
-use mathlib.Core.Bool.{Bool, true, false, cond, _&&_}
+use mathlib.Core.Bool.{Bool, true, false}
 use mathlib.Core.List.{List, [], _∷_}
-use Prim.Native.Nat.{ℕ, _+_, _*_, _-_, _/_, _%_, _≤_, _<_}
+use Prim.Native.Nat.{ℕ, _+_, _-_, _/_, _%_, _≤_, _<_}
 use native.Mathlib.Numerals.{add-one}
 use native.Mathlib.Omega.{arith}
 use borrow.Author.Needs.{needs}
 use borrow.Author.Tests.{eq-eqb, ne-eqb, le-leb, lt-leb}
-use lib.Dec.{eqb, leb}
-use lib.ListN.{length, take, drop, getD, length-drop, length-take, length-map, drop-of-length-le}
+use lib.Dec.{eqb}
+use lib.ListN.{length, take, drop, getD, length-drop, length-map, drop-of-length-le}
 use lib.Seq.{drop-cons, length-take-le, take-all}
 use Rattle.house.specs.declared.Date.{Date}
 use Rattle.house.specs.declared.Dated.{Dated}
 use Rattle.house.specs.declared.Dated.the-variants.{Day, NoDate}
-use Rattle.house.specs.declared.Order.{Order}
-use Rattle.house.specs.declared.Order.the-variants.{Less, Same, More}
-use Rattle.house.specs.Text.{Text, all, those, adjacent, chained, orderOf, below, run, isDigit, digits, isPadded}
-use Rattle.house.specs.Dates.{isDate, datedOf}
+use Rattle.house.specs.Text.{Text, all, those, adjacent, below, run, digits, isPadded}
+use Rattle.house.specs.Dates.{datedOf}
 use Rattle.house.proofs.Suffix.{drop-here, drop-past}
 use Rattle.house.proofs.DateLaws.{dated-true, dated-false}
-use Rattle.ledger.specs.declared.Validity.{Validity}
 use Rattle.ledger.specs.declared.Validity.the-variants.{Sound, Malformed}
 use Rattle.ledger.specs.Ledger.{slotsIn, slots, eventForm, isLiveSlot, isFreeSlot, slotForm, slotFollows, ledgerOk, liveIn, validOf}
-use Rattle.ledger.proofs.SlotLaws.{length-slots, slot-size}
+use Rattle.ledger.proofs.SlotLaws.{length-slots}
 
 -- is_event
 module _ (e : Text) (n : length e ≡ 37) where

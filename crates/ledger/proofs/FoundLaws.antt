@@ -11,14 +11,13 @@ use borrow.Author.Tests.{le-leb}
 use lib.Dec.{eqb, leb}
 use lib.ListN.{length, take, drop, getD, length-map, List·getD-map}
 use lib.Seq.{getD-take}
-use Rattle.house.specs.declared.Order.{Order}
-use Rattle.house.specs.declared.Order.the-variants.{Less, Same, More}
+use Rattle.house.specs.declared.Order.the-variants.{Less, More}
 use Rattle.house.specs.Text.{Text, any, all, those, adjacent, orderOf, same}
 use Rattle.house.proofs.Small.{both}
 use Rattle.house.proofs.OrderAlgebra.{flip, flipped, same-eq}
 use Rattle.house.proofs.Decisions.{is-same, not-same, below-less, order-refl}
 use Rattle.house.proofs.SearchLaws.{Decides, hit, miss, halve-decides}
-use Rattle.events.specs.Inside.{Lt, Le, Over, Asc}
+use Rattle.events.specs.Inside.{Lt, Asc}
 use Rattle.events.proofs.Ranks.{order, le-lt-trans}
 use Rattle.events.proofs.Order.{all-at}
 use Rattle.ledger.specs.Ledger.{slotsIn, slots, isLiveSlot, slotForm, slotFollows, ledgerOk, liveIn, isAmong, liveSlot, eventIn, slotsAsked, foundIn}

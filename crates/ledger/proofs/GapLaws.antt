@@ -2,25 +2,24 @@
 -- d stand below the slots that are still to be looked at.
 -- Assumes nothing.
 use mathlib.Core.Path.{_≡_, refl, sym, ap, _∙_, subst}
-use mathlib.Core.Logic.{_⊎_, inl, inr}
-use mathlib.Core.Bool.{Bool, true, false}
-use mathlib.Core.List.{List, [], _∷_, _++_, map}
-use Prim.Native.Nat.{ℕ, zero, suc, _+_, _*_, _-_, _/_, _≤_, _<_}
+use mathlib.Core.Bool.{true, false}
+use mathlib.Core.List.{List, [], _∷_, _++_}
+use Prim.Native.Nat.{ℕ, suc, _+_, _-_, _/_, _≤_, _<_}
 use native.Mathlib.Nat.{add-zero}
 use native.Mathlib.Numerals.{add-one}
 use native.Mathlib.Omega.{arith}
 use borrow.Author.Needs.{needs}
-use lib.ListN.{length, take, drop, getD, set, length-append, length-drop}
+use lib.ListN.{length, take, drop, getD, set, length-append}
 use lib.Seq.{drop-cons, drop-drop, drop-set-lt, take-suc, take-suc-set, getD-drop, getD-take, length-take-le}
 use Rattle.house.specs.declared.Order.{Order}
 use Rattle.house.specs.declared.Order.the-variants.{Less, Same, More}
-use Rattle.house.specs.Text.{Text, orderOf, below}
+use Rattle.house.specs.Text.{Text, below}
 use Rattle.house.proofs.Small.{clash, Three, lt, eq, gt, three}
 use Rattle.house.proofs.OrderAlgebra.{flip, flipped, same-eq}
 use Rattle.house.proofs.Decisions.{less-below}
 use Rattle.house.proofs.Suffix.{drop-here, drop-past}
 use Rattle.events.specs.Events.{eventAt, eventsAt}
-use Rattle.events.specs.Inside.{Lt, Le, All, From, Over, Asc}
+use Rattle.events.specs.Inside.{Lt, All, Asc}
 use Rattle.events.proofs.Order.{over-down}
 use Rattle.ledger.specs.Ledger.{slots, liveSlot, isAmong, less}
 use Rattle.ledger.specs.Inside.{whole, slotsFor, headOrder}

@@ -16,6 +16,7 @@ use Rattle.house.proofs.Facts.{both, both-of, of-true}
 use Rattle.house.proofs.Members.{in-those, in-map, all-in, one-rising}
 use Rattle.house.proofs.Decisions.{below-asym, below-trans}
 use Rattle.ledger.specs.Ledger.{Event, slotBytes, slotsMost, slotsIn, chop, slots, eventForm, isLiveSlot, isFreeSlot, slotForm, slotFollows, ledgerOk, liveIn, liveSlot, ledgerWith}
+use Rattle.ledger.proofs.SlotLaws.{length-chop}
 use Rattle.ledger.proofs.EventLaws.{Below, Up}
 
 -- an event has 37 bytes
@@ -164,7 +165,7 @@ chop-long (suc n) s t h (inl e) = ap length e ∙ length-take 38 s ∙ omega ari
 chop-long (suc n) s t h (inr m) = chop-long n (drop 38 s) t (let k = length-drop 38 s in omega arith) m
 
 -- a live slot is 1 and its event
-live-slot : (x : Text) → T (isLiveSlot x) → x ≡ 1 ∷ drop 1 x
+pub live-slot : (x : Text) → T (isLiveSlot x) → x ≡ 1 ∷ drop 1 x
 unfolding isLiveSlot
 live-slot [] l = absurd l
 live-slot (b ∷ x) l = ap (λ (c : ℕ). c ∷ x) (eqb→eq b 1 l)
@@ -331,11 +332,6 @@ held (t ∷ ts) f a n = go (held ts (both (slotForm t) (all slotForm ts) f .1) (
               ∙ ap (λ (es : List Event). joined liveSlot es ++ zeros (suc (length ts) * 38)) (sym none);
         }
 
-chop-count : (n : ℕ) (s : Text) → length (chop n s) ≡ n
-unfolding chop
-chop-count zero s = refl
-chop-count (suc n) s = ap suc (chop-count n (drop 38 s))
-
 -- a well-formed ledger is the one that holds its live events
 pub ledger-is : (s : Text) → T (ledgerOk s) → s ≡ ledgerWith (length s) (liveIn s)
 unfolding ledgerWith liveIn slots slotsIn
@@ -343,7 +339,7 @@ ledger-is s ok =
     let w = well-formed s ok in
     let h = held (slots s) (w .forms) (w .follow) (slot-long s ok) in
     let d = div-add-mod' (length s) 38 in
-    let c : length (slots s) ≡ length s / 38 = chop-count (length s / 38) s in
+    let c : length (slots s) ≡ length s / 38 = length-chop (length s / 38) s in
     let k : h .free * 38 ≡ length s - length (heldBy (slots s)) * 38 = omega (arith, h .as-many, c, d, w .whole) in
     sym (flat-chop (length s / 38) s (omega (arith, d, w .whole))) ∙ h .as-laid ∙ ap (λ (n : ℕ). joined liveSlot (heldBy (slots s)) ++ zeros n) k
 

@@ -3,23 +3,21 @@
 use mathlib.Core.Path.{_≡_, refl, sym, ap, ap₂, _∙_, subst}
 use mathlib.Core.Bool.{Bool, true, false, not, cond, _&&_, _||_}
 use mathlib.Core.List.{List, [], _∷_, _++_, map}
-use Prim.Native.Nat.{ℕ, zero, suc, _+_, _≤_, _<_}
-use native.Mathlib.Omega.{arith}
-use borrow.Author.Tests.{eqb-true}
-use lib.Dec.{T, eqb}
-use lib.ListN.{length, take, drop, getD}
-use Rattle.house.specs.Text.{Text, any, those, adjacent, chained, joined, orderOf, isLess, isSame, below, same}
+use Prim.Native.Nat.{_+_}
+use lib.Dec.{T}
+use lib.ListN.{length, take, drop}
+use Rattle.house.specs.Text.{Text, those, adjacent, chained, joined, isLess, isSame, below, same}
 use Rattle.house.proofs.Small.{clash, both}
 use Rattle.house.proofs.Facts.{of-true}
 use Rattle.house.proofs.OrderAlgebra.{cons-eq}
-use Rattle.house.proofs.Decisions.{below-trans}
 use Rattle.events.specs.Events.{ascends}
 use Rattle.events.specs.Sorted.{putIn, place}
 use Rattle.events.specs.Inside.{Lt, Over, Asc}
 use Rattle.events.proofs.Order.{over-down}
 use Rattle.events.proofs.SortedLaws.{ascends-asc}
-use Rattle.ledger.specs.Ledger.{slots, isLiveSlot, slotFollows, liveIn, isAmong, insert, plus, less, liveSlot}
+use Rattle.ledger.specs.Ledger.{slots, isLiveSlot, slotFollows, isAmong, insert, plus, less, liveSlot}
 use Rattle.ledger.specs.Inside.{whole}
+use Rattle.ledger.proofs.HeldLaws.{live-slot}
 
 -- events that ascend
 map-whole : (es : List Text) → map whole es ≡ es
@@ -65,18 +63,13 @@ in-order (x ∷ xs) h = go (isLiveSlot x) refl
     go false e = rw (free-rest x xs e h) (refl, tt)
 
 -- a live slot is its event behind kind 1
-live-shape : (t : Text) → isLiveSlot t ≡ true → liveSlot (drop 1 t) ≡ t
-unfolding isLiveSlot
-live-shape [] h = absurd (omega (arith, eqb-true 0 1 h))
-live-shape (b ∷ t) h = ap (λ (c : ℕ). c ∷ t) (sym (eqb-true b 1 h))
-
 pub live-slots : (ts : List Text) → map liveSlot (map (drop 1) (those isLiveSlot ts)) ≡ those isLiveSlot ts
 live-slots [] = refl
 live-slots (t ∷ ts) = go (isLiveSlot t) refl (live-slots ts)
   where
     go : (b : Bool) → isLiveSlot t ≡ b → map liveSlot (map (drop 1) (those isLiveSlot ts)) ≡ those isLiveSlot ts
         → map liveSlot (map (drop 1) (cond b (t ∷ those isLiveSlot ts) (those isLiveSlot ts))) ≡ cond b (t ∷ those isLiveSlot ts) (those isLiveSlot ts)
-    go true e r = ap₂ _∷_ (live-shape t e) r
+    go true e r = ap₂ _∷_ (sym (live-slot t (of-true (isLiveSlot t) e))) r
     go false e r = r
 
 -- slots stand to one another as their events

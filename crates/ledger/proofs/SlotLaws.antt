@@ -1,7 +1,7 @@
 -- An area as slots: how many there are, which bytes each has, and what stands once one is written over.
 -- Assumes nothing.
 use mathlib.Core.Path.{_≡_, refl, sym, ap, _∙_}
-use mathlib.Core.List.{List, [], _∷_, _++_, append-assoc}
+use mathlib.Core.List.{[], _++_, append-assoc}
 use Prim.Native.Nat.{ℕ, zero, suc, _+_, _*_, _-_, _/_, _≤_, _<_}
 use native.Mathlib.Nat.{not-suc-le-zero, le-of-suc-le-suc, add-assoc, add-sub-cancel-left}
 use native.Mathlib.Omega.{arith}
@@ -11,7 +11,7 @@ use lib.Seq.{paste, length-take-le, take-at, drop-at, take-add, drop-drop, lengt
 use Rattle.house.specs.Text.{Text}
 use Rattle.ledger.specs.Ledger.{slotsIn, chop, slots}
 
-length-chop : (n : ℕ) (s : Text) → length (chop n s) ≡ n
+pub length-chop : (n : ℕ) (s : Text) → length (chop n s) ≡ n
 unfolding chop
 length-chop zero s = refl
 length-chop (suc n) s = ap suc (length-chop n (drop 38 s))

@@ -9,7 +9,7 @@ use native.Mathlib.Omega.{arith}
 use borrow.Author.Needs.{needs}
 use borrow.Author.Tests.{eq-eqb, ne-eqb, le-leb, leb-true, leb-false}
 use lib.Dec.{eqb, leb}
-use lib.ListN.{length, take, drop, getD, replicate, length-map, length-append}
+use lib.ListN.{length, take, drop, getD, replicate, length-map}
 use lib.Seq.{take-at, take-add}
 use Rattle.house.specs.Text.{Text, those, count, adjacent, joined, below, same}
 use Rattle.house.proofs.Small.{both}
@@ -21,7 +21,6 @@ use Rattle.events.proofs.Order.{up-asc, asc-those, length-place, place-sorted}
 use Rattle.events.proofs.SortedLaws.{keys-placed}
 use Rattle.ledger.specs.Ledger.{slotsIn, chop, slots, isLiveSlot, slotFollows, ledgerOk, liveIn, isAmong, foundIn, plus, less, eventsAfter, liveSlot, ledgerWith, isFit, updated}
 use Rattle.ledger.specs.Inside.{whole, slotsFor, hasRoom, Fit}
-use Rattle.ledger.proofs.SlotLaws.{length-slots}
 use Rattle.ledger.proofs.BackLaws.{length-for}
 use Rattle.ledger.proofs.LiveLaws.{events-asc, asc-live, less-live, place-live, plus-place, joined-live}
 use Rattle.ledger.proofs.FoundLaws.{live-length, live-first, live-up, found-among, ok-whole, ok-order}

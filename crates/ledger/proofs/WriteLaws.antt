@@ -1,24 +1,23 @@
 -- What each need of the functions that read, make and write a slot asks, and of the one that clears the rest.
 -- Assumes nothing.
-use mathlib.Core.Path.{_≡_, refl, sym, ap, _∙_}
-use mathlib.Core.Bool.{Bool, true, false, not, _&&_}
-use mathlib.Core.List.{List, [], _∷_, _++_, append-assoc, append-nil}
-use Prim.Native.Nat.{ℕ, zero, suc, _+_, _*_, _-_, _/_, _≤_, _<_}
-use native.Mathlib.Nat.{not-suc-le-zero, le-of-suc-le-suc, add-assoc, add-zero}
+use mathlib.Core.Path.{_≡_, sym, ap, _∙_}
+use mathlib.Core.Bool.{Bool, true, false, not}
+use mathlib.Core.List.{List, [], _∷_, _++_, append-nil}
+use Prim.Native.Nat.{ℕ, _+_, _*_, _-_, _/_, _≤_, _<_}
 use native.Mathlib.Numerals.{add-one}
 use native.Mathlib.Omega.{arith}
 use borrow.Author.Needs.{needs}
 use borrow.Author.Tests.{lt-ltb, le-ltb, ltb-true}
 use lib.Dec.{ltb}
 use lib.ListN.{length, take, drop, getD, set, replicate, length-drop, length-replicate, drop-of-length-le, getD-replicate}
-use lib.Seq.{paste, paste-zero, paste-suc, length-paste, length-take-le, take-at, drop-at, take-add, drop-drop, take-all, getD-drop}
+use lib.Seq.{paste, paste-zero, paste-suc, take-all, getD-drop}
 use Rattle.house.specs.declared.Order.{Order}
-use Rattle.house.specs.declared.Order.the-variants.{Less, Same, More}
+use Rattle.house.specs.declared.Order.the-variants.{More}
 use Rattle.house.specs.Text.{Text, orderOf, below}
 use Rattle.house.proofs.Small.{both}
 use Rattle.house.proofs.Suffix.{drop-here, drop-past}
 use Rattle.events.specs.Events.{eventAt, eventsAt}
-use Rattle.ledger.specs.Ledger.{slotsIn, chop, slots, liveSlot}
+use Rattle.ledger.specs.Ledger.{slots, liveSlot}
 use Rattle.ledger.specs.Inside.{slotsFor, headOrder, goesLast, lastOf}
 use Rattle.events.proofs.MergeLaws.{front-on}
 use Rattle.ledger.proofs.SlotLaws.{slot-at, slot-fits, slots-paste}

@@ -7,7 +7,7 @@ use mathlib.Core.List.{List, [], _∷_, map}
 use lib.ListN.{length, getD}
 use lib.Dec.{leb, ltb}
 use Rattle.house.specs.declared.Order.{Order}
-use Rattle.house.specs.declared.Order.the-variants.{Less, Same, More}
+use Rattle.house.specs.declared.Order.the-variants.{More}
 use Rattle.house.specs.Text.{Text, those, count, adjacent, orderOf, below}
 use Rattle.events.specs.Events.{eventsAt, ascends}
 use Rattle.ledger.specs.Ledger.{slotBytes, slots, isLiveSlot, slotFollows, liveIn, foundIn, liveSlot, eventsAfter}
