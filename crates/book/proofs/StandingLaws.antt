@@ -2,7 +2,7 @@
 -- Assumes nothing.
 use mathlib.Core.Path.{_≡_, refl, sym, ap, _∙_, subst}
 use mathlib.Core.Logic.{_⊎_, inl, inr}
-use mathlib.Core.Bool.{Bool, true, false, cond, _&&_}
+use mathlib.Core.Bool.{Bool, true, false, cond, _&&_, _||_}
 use mathlib.Core.List.{List, [], _∷_, _++_}
 use Prim.Native.Nat.{ℕ, zero, suc, _+_, _-_, _*_, _≤_, _<_}
 use native.Mathlib.Nat.{mul-div-cancel}
@@ -261,49 +261,61 @@ module _ (s : Text) (v : Validity) (e : v ≡ validOf s) where
       go true p z = clash (cc)
       go false p z = p
 
-unknown-says : (u v : Bool) → cond u (cond v InForce OutOfForce) Unknown ≡ Unknown → u ≡ false
-unknown-says true true e = clash (cc)
-unknown-says true false e = clash (cc)
-unknown-says false v e = refl
+-- an answer that says that the code is known, that it is in force
+abbrev pub saysKnown : Standing → Bool
+saysKnown Unknown = false
+saysKnown OutOfForce = true
+saysKnown InForce = true
 
-out-says : (u v : Bool) → cond u (cond v InForce OutOfForce) Unknown ≡ OutOfForce → (u ≡ true) × (v ≡ false)
-out-says true true e = clash (cc)
-out-says true false e = (refl, refl)
-out-says false v e = clash (cc)
+abbrev pub saysInForce : Standing → Bool
+saysInForce Unknown = false
+saysInForce OutOfForce = false
+saysInForce InForce = true
 
-in-says : (u v : Bool) → cond u (cond v InForce OutOfForce) Unknown ≡ InForce → (u ≡ true) × (v ≡ true)
-in-says true true e = (refl, refl)
-in-says true false e = clash (cc)
-in-says false v e = clash (cc)
+in-or-out : (b : Bool) → (saysKnown (cond b InForce OutOfForce) ≡ true) × (saysInForce (cond b InForce OutOfForce) ≡ b)
+in-or-out true = (refl, refl)
+in-or-out false = (refl, refl)
 
--- what the answer of `look_up` says of the book in use
-module _ (s : Text) (q : Sections) (h : Sound s q) (k : ℕ) (a b : Text) (d : ℕ) (r : Standing) (e : r ≡ standingIn s q k a b d) where
-  pub look-says : r ≡ standingOf (bookOf s) k (codeText k a b) d
-  unfolding bookOf
-  look-says = e ∙ standing-is s q h k a b d
+-- a code that is not known is not in force
+unlisted : (d k : ℕ) (x : Text) (es : List Entry) → listed es k x ≡ false → listedOn es d k x ≡ false
+unfolding listed listedOn
+unlisted d k x [] h = refl
+unlisted d k x (e ∷ es) h = go (unlisted d k x es) (isEntry k x e) h
+  where
+    go : (any (isEntry k x) es ≡ false → listedOn es d k x ≡ false) → (t : Bool) → (t || any (isEntry k x) es) ≡ false → ((t && inForce d e) || listedOn es d k x) ≡ false
+    go r true z = clash (cc)
+    go r false z = r z
 
-  pub unknown-known : r ≡ Unknown → listed (bookOf s) k (codeText k a b) ≡ false
-  unfolding standingOf
-  unknown-known z = unknown-says (listed (bookOf s) k (codeText k a b)) (listedOn (bookOf s) d k (codeText k a b)) (sym look-says ∙ z)
+module _ (s : Text) (q : Sections) (h : Sound s q) (k : ℕ) (a b : Text) where
+  -- what the answer of `look_up` says of the book in use
+  module _ (d : ℕ) (r : Standing) (e : r ≡ standingIn s q k a b d) where
+    says : (saysKnown r ≡ listed (bookOf s) k (codeText k a b)) × (saysInForce r ≡ listedOn (bookOf s) d k (codeText k a b))
+    unfolding bookOf standingOf
+    says = rw (e, standing-is s q h k a b d) (go (listed (entries s) k (codeText k a b)) refl)
+      where
+        go : (u : Bool) → listed (entries s) k (codeText k a b) ≡ u
+            → (saysKnown (cond u (cond (listedOn (entries s) d k (codeText k a b)) InForce OutOfForce) Unknown) ≡ u) × (saysInForce (cond u (cond (listedOn (entries s) d k (codeText k a b)) InForce OutOfForce) Unknown) ≡ listedOn (entries s) d k (codeText k a b))
+        go true z = in-or-out (listedOn (entries s) d k (codeText k a b))
+        go false z = (refl, sym (unlisted d k (codeText k a b) (entries s) z))
 
-  module _ (z : r ≡ OutOfForce) where
-    out : (listed (bookOf s) k (codeText k a b) ≡ true) × (listedOn (bookOf s) d k (codeText k a b) ≡ false)
-    unfolding standingOf
-    out = out-says (listed (bookOf s) k (codeText k a b)) (listedOn (bookOf s) d k (codeText k a b)) (sym look-says ∙ z)
+    pub look-known : listed (bookOf s) k (codeText k a b) ≡ saysKnown r
+    look-known = sym (says .0)
 
-    pub out-known : listed (bookOf s) k (codeText k a b) ≡ true
-    out-known = out .0
+    pub look-in-force : listedOn (bookOf s) d k (codeText k a b) ≡ saysInForce r
+    look-in-force = sym (says .1)
 
-    pub out-force : listedOn (bookOf s) d k (codeText k a b) ≡ false
-    out-force = out .1
+  -- what the answer of `find` says of it
+  module _ (f : Found) (e : f ≡ foundIn s q k a b) where
+    stands : (d : ℕ) → standingAt s d f ≡ standingIn s q k a b d
+    unfolding standingIn
+    stands d = ap (standingAt s d) e
 
-  module _ (z : r ≡ InForce) where
-    ins : (listed (bookOf s) k (codeText k a b) ≡ true) × (listedOn (bookOf s) d k (codeText k a b) ≡ true)
-    unfolding standingOf
-    ins = in-says (listed (bookOf s) k (codeText k a b)) (listedOn (bookOf s) d k (codeText k a b)) (sym look-says ∙ z)
+    pub absent-known : f ≡ Absent → listed (bookOf s) k (codeText k a b) ≡ false
+    absent-known z = look-known 0 (standingAt s 0 f) (stands 0) ∙ ap (λ (y : Found). saysKnown (standingAt s 0 y)) z
 
-    pub in-known : listed (bookOf s) k (codeText k a b) ≡ true
-    in-known = ins .0
+    module _ (p : Position) (z : f ≡ At p) where
+      pub found-known : listed (bookOf s) k (codeText k a b) ≡ true
+      found-known = look-known 0 (standingAt s 0 f) (stands 0) ∙ ap (λ (y : Found). saysKnown (standingAt s 0 y)) z ∙ in-or-out (inForceAt 0 (drop (p .at) s)) .0
 
-    pub in-force : listedOn (bookOf s) d k (codeText k a b) ≡ true
-    in-force = ins .1
+      pub found-in-force : (d : ℕ) → listedOn (bookOf s) d k (codeText k a b) ≡ inForceAt d (drop (p .at) s)
+      found-in-force d = look-in-force d (standingAt s d f) (stands d) ∙ ap (λ (y : Found). saysInForce (standingAt s d y)) z ∙ in-or-out (inForceAt d (drop (p .at) s)) .1

@@ -1,0 +1,165 @@
+// Texts: the order of bytes, padded codes, digits.
+use crate::Order;
+ghost use mathlib.Core.Path.{_≡_};
+ghost use mathlib.Core.Bool.{true};
+ghost use Prim.Native.Nat.{_≤_};
+ghost use lib.ListN.{length, drop, getD};
+ghost use Rattle.house.specs.Text.{all, isBlank, digits, number, graphicLen, isPadded, pad, orderOf, below, same};
+
+// How a stands to b; a text stands before those that go on from it.
+pub fn compare(a: &[u8], b: &[u8]) -> Order
+    ensures { λ r. ⌜ r ≡ orderOf (now (a .entry)) (now (b .entry)) ⌝ }
+{
+    let mut i = 0;
+    while i < a.len() {
+        if b.len() <= i {
+            return Order::More;
+        }
+        let x = a[i];
+        let y = b[i];
+        if x < y {
+            return Order::Less;
+        }
+        if y < x {
+            return Order::More;
+        }
+        i += 1;
+    }
+    if i < b.len() {
+        Order::Less
+    } else {
+        Order::Same
+    }
+}
+
+// Whether a stands before b.
+pub fn before(a: &[u8], b: &[u8]) -> bool
+    ensures { λ r. ⌜ r ≡ below (now (a .entry)) (now (b .entry)) ⌝ }
+{
+    let o = compare(a, b);
+    match o {
+        Order::Less => true,
+        Order::Same => false,
+        Order::More => false,
+    }
+}
+
+// Whether two texts are the same, byte for byte. Most that differ, differ in length.
+pub fn same(a: &[u8], b: &[u8]) -> bool
+    ensures { λ r. ⌜ r ≡ same (now (a .entry)) (now (b .entry)) ⌝ }
+{
+    if a.len() != b.len() {
+        return false;
+    }
+    let mut i = 0;
+    while i < a.len() {
+        if a[i] != b[i] {
+            return false;
+        }
+        i += 1;
+    }
+    true
+}
+
+// The byte of a text at a place, a blank past its end.
+pub(crate) fn padded_byte(text: &[u8], i: usize) -> u8
+    ensures { λ r. ⌜ r ≡ getD (now (text .entry)) i 32 ⌝ }
+{
+    if i < text.len() { text[i] } else { 32 }
+}
+
+// How a code stands to a text that is padded to the code's width, without writing the padded text.
+pub fn compare_padded(code: &[u8], text: &[u8]) -> Order
+    ensures { λ r. ⌜ r ≡ orderOf (now (code .entry)) (pad (length (now (code .entry))) (now (text .entry))) ⌝ }
+{
+    let mut i = 0;
+    while i < code.len() {
+        let x = code[i];
+        let y = padded_byte(text, i);
+        if x < y {
+            return Order::Less;
+        }
+        if y < x {
+            return Order::More;
+        }
+        i += 1;
+    }
+    Order::Same
+}
+
+// How many bytes in 33..126 a text starts with.
+fn graphic_len(text: &[u8]) -> usize
+    ensures { λ r. ⌜ r ≡ graphicLen (now (text .entry)) ⌝ }
+{
+    let mut i = 0;
+    while i < text.len() {
+        let b = text[i];
+        if b < 33 {
+            return i;
+        }
+        if 126 < b {
+            return i;
+        }
+        i += 1;
+    }
+    i
+}
+
+// Whether there are only blanks from a place on.
+fn blanks_from(text: &[u8], at: usize) -> bool
+    ensures { λ r. ⌜ r ≡ all isBlank (drop at (now (text .entry))) ⌝ }
+{
+    let mut i = at;
+    while i < text.len() {
+        if text[i] != 32 {
+            return false;
+        }
+        i += 1;
+    }
+    true
+}
+
+// Whether a text is a padded code of its width: one byte in 33..126 or more, then blanks.
+pub fn is_padded(text: &[u8]) -> bool
+    ensures { λ r. ⌜ r ≡ isPadded (now (text .entry)) ⌝ }
+{
+    let n = graphic_len(text);
+    if n == 0 {
+        return false;
+    }
+    blanks_from(text, n)
+}
+
+// Whether each byte is a digit.
+pub fn all_digits(text: &[u8]) -> bool
+    ensures { λ r. ⌜ r ≡ digits (now (text .entry)) ⌝ }
+{
+    let mut i = 0;
+    while i < text.len() {
+        let b = text[i];
+        if b < 48 {
+            return false;
+        }
+        if 57 < b {
+            return false;
+        }
+        i += 1;
+    }
+    true
+}
+
+// The number that up to eight digits write.
+pub(crate) fn number_of(text: &[u8]) -> u32
+    requires { ⌜ length (now text) ≤ 8 ⌝ }
+    requires { ⌜ digits (now text) ≡ true ⌝ }
+    ensures { λ r. ⌜ r ≡ number (now (text .entry)) ⌝ }
+{
+    let mut v: u32 = 0;
+    let mut i = 0;
+    while i < text.len() {
+        let d = (text[i] - 48) as u32;
+        v = v * 10 + d;
+        i += 1;
+    }
+    v
+}
