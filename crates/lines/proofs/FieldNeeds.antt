@@ -153,15 +153,15 @@ module _ (s : Text) (n f : ℕ) (y : Bool) (e : y ≡ fieldThere s n f) where
         go zero k = clash (cc)
         go (suc g) k = omega arith
 
-    module _ (a b : ℕ) (t : Text) (p : a ≡ linesLen (n - 1) s) (x : t ≡ textAt s n) (q : b ≡ fieldsLen (f - 1) t) where
-      pub position-is : a + b ≡ fieldPosition s n f
-      unfolding fieldPosition
-      position-is = rw (← e, h, p, q, x)
-
-      pub position-fits : a ≤ length s → length s < 18446744073709551616 → a + b < 18446744073709551616
+    module _ (a b : ℕ) (t : Text) (p : a ≡ linesLen (n - 1) s) (x : t ≡ textAt s n) where
+      pub position-fits : (k : ℕ) → b ≡ fieldsLen k t → a ≤ length s → length s < 18446744073709551616 → a + b < 18446744073709551616
       unfolding textLen
-      position-fits i j =
+      position-fits k q i j =
           let l : length t ≡ textLen (drop a s) = rw (x, p, text-after s n (λ z. omega (arith, line-one))) in
-          omega (arith, l, fields-le (f - 1) t, text-le (drop a s), length-drop a s)
+          omega (arith, l, fields-le k t, text-le (drop a s), length-drop a s)
+
+      pub position-is : b ≡ fieldsLen (f - 1) t → a + b ≡ fieldPosition s n f
+      unfolding fieldPosition
+      position-is q = rw (← e, h, p, q, x)
 
 pub ruleset for-field-position = (needs, position-none, line-one, field-one, position-is, position-fits)

@@ -17,6 +17,14 @@ use Rattle.lines.specs.Records.{Rec, recOf, read, recs}
 use Rattle.lines.specs.Inside.{part, whole}
 use Rattle.lines.proofs.LineLaws.{by-ending, line-more, len-more, line-pos, lines-step, lines-past, at-next, at-lf, at-line, lines-on}
 
+pub whole-nil : whole [] ≡ true
+unfolding whole linesOf
+whole-nil = refl
+
+pub recs-nil : recs [] ≡ []
+unfolding recs linesOf
+recs-nil = refl
+
 -- a byte of text before a text
 lines-more : (b : ℕ) (s : Text) → endingOf (b ∷ s) ≡ 0 → linesOf (b ∷ s) ≡ grow b (linesOf s)
 unfolding linesOf byEnding

@@ -63,10 +63,10 @@ pub fn field_of(text: &[u8], f: usize) -> &[u8]
     }
     let start = field_start(text, f - 1);
     let end = pipe_from(text, start);
-    if text.len() <= end {
-        return &text[..0];
+    if end < text.len() {
+        return &text[start..end];
     }
-    &text[start..end]
+    &text[..0]
 }
 
 // The text of field f of a line, both counted from 1; empty where it is not there.
