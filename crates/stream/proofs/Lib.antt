@@ -1,2 +1,3 @@
 pub mod PartLaws
 mod PartNeeds
+mod OneAnswer
