@@ -1,7 +1,7 @@
 -- What each need of the functions that test a ledger's form asks.
 -- Assumes nothing.
 use mathlib.Core.Path.{_≡_, refl, sym, ap, _∙_}
-use mathlib.Core.Bool.{Bool, true, false}
+use mathlib.Core.Bool.{Bool, true, false, cond, _&&_}
 use mathlib.Core.List.{List, [], _∷_}
 use Prim.Native.Nat.{ℕ, _+_, _-_, _/_, _%_, _≤_, _<_}
 use native.Mathlib.Numerals.{add-one}
@@ -14,12 +14,14 @@ use lib.Seq.{drop-cons, length-take-le, take-all}
 use Rattle.house.specs.declared.Date.{Date}
 use Rattle.house.specs.declared.Dated.{Dated}
 use Rattle.house.specs.declared.Dated.the-variants.{Day, NoDate}
-use Rattle.house.specs.Text.{Text, all, those, adjacent, below, run, digits, isPadded}
+use Rattle.house.specs.Text.{Text, all, those, adjacent, chained, below, run, digits, isPadded}
 use Rattle.house.specs.Dates.{datedOf}
 use Rattle.house.proofs.Suffix.{drop-here, drop-past}
 use Rattle.house.proofs.DateLaws.{dated-true, dated-false}
+use Rattle.ledger.specs.declared.Validity.{Validity}
 use Rattle.ledger.specs.declared.Validity.the-variants.{Sound, Malformed}
 use Rattle.ledger.specs.Ledger.{slotsIn, slots, eventForm, isLiveSlot, isFreeSlot, slotForm, slotFollows, ledgerOk, liveIn, validOf}
+use Rattle.ledger.specs.Inside.{followed, soundAt, soundFrom}
 use Rattle.ledger.proofs.SlotLaws.{length-slots}
 
 -- is_event
@@ -94,20 +96,6 @@ module _ (s : Text) (i : ℕ) where
   pub slots-past : length s / 38 ≤ i → drop i (slots s) ≡ []
   slots-past h = drop-of-length-le (slots s) {i = i} (omega (arith, length-slots s))
 
--- all_formed
-module _ (s : Text) (i : ℕ) (x : Bool) (inv : x ≡ all slotForm (drop i (slots s))) where
-  module _ (h : i < length s / 38) (t : Text) (e : t ≡ getD (slots s) i []) (r : Bool) (q : r ≡ slotForm t) where
-    pub formed-on : r ≡ true → x ≡ all slotForm (drop (i + 1) (slots s))
-    formed-on f = rw (inv, slots-here s i h, ← e, ← q, f)
-
-    pub formed-not : r ≡ false → false ≡ x
-    formed-not f = rw (inv, slots-here s i h, ← e, ← q, f)
-
-  pub formed-end : length s / 38 ≤ i → true ≡ x
-  formed-end h = rw (inv, slots-past s i h)
-
-pub ruleset for-all-formed = (needs, formed-on, formed-not, formed-end)
-
 -- may_follow
 module _ (s t : Text) (g : Bool) (p : g ≡ isLiveSlot t) where
   pub follow-free : g ≡ false → true ≡ slotFollows s t
@@ -167,6 +155,63 @@ module _ (s : Text) (i n x : ℕ) (inv : x ≡ n + length (those isLiveSlot (dro
 
 pub ruleset for-count-live = (needs, count-start, count-live, count-free, count-end)
 
+-- is_sound_at
+module _ (s : Text) (i : ℕ) (t : Text) (e : t ≡ getD (slots s) i []) (g : Bool) (p : g ≡ slotForm t) where
+  pub at-unformed : g ≡ false → false ≡ soundAt (getD (slots s) i []) (drop (i + 1) (slots s))
+  unfolding soundAt
+  at-unformed f = rw (← e, ← p, f)
+
+  pub at-last : g ≡ true → length s / 38 ≤ i + 1 → true ≡ soundAt (getD (slots s) i []) (drop (i + 1) (slots s))
+  unfolding soundAt followed
+  at-last f l = rw (slots-past s (i + 1) l, ← e, ← p, f)
+
+  pub at-next : (u : Text) (r : Bool) → g ≡ true → i + 1 < length s / 38 → u ≡ getD (slots s) (i + 1) [] → r ≡ slotFollows t u → r ≡ soundAt (getD (slots s) i []) (drop (i + 1) (slots s))
+  unfolding soundAt followed
+  at-next u r f h w q = rw (slots-here s (i + 1) h, ← e, ← w, ← p, f) q
+
+pub ruleset for-sound-at = (needs, at-unformed, at-last, at-next)
+
+-- sound_slots
+swap : (a b c d : Bool) → ((a && c) && (b && d)) ≡ ((a && b) && (c && d))
+swap false b c d = refl
+swap true true c d = refl
+swap true false true d = refl
+swap true false false d = refl
+
+sound-cons : (t : Text) (ts : List Text) → ((slotForm t && all slotForm ts) && chained slotFollows t ts) ≡ (soundAt t ts && (all slotForm ts && adjacent slotFollows ts))
+unfolding soundAt followed
+sound-cons t [] = swap (slotForm t) true true true
+sound-cons t (u ∷ us) = swap (slotForm t) (slotFollows t u) (slotForm u && all slotForm us) (chained slotFollows u us)
+
+sound-first : (n : ℕ) (t : Text) (ts : List Text) → soundFrom n (t ∷ ts) ≡ cond (soundAt t ts) (soundFrom (cond (isLiveSlot t) (n + 1) n) ts) Malformed
+unfolding soundFrom
+sound-first n t ts = ap (λ (b : Bool). cond b (Sound (n + length (those isLiveSlot (t ∷ ts)))) Malformed) (sound-cons t ts) ∙ go (soundAt t ts) (isLiveSlot t) (all slotForm ts && adjacent slotFollows ts) (those isLiveSlot ts)
+  where
+    go : (a b c : Bool) (l : List Text) → cond (a && c) (Sound (n + length (cond b (t ∷ l) l))) Malformed ≡ cond a (cond c (Sound (cond b (n + 1) n + length l)) Malformed) Malformed
+    go true true c l =
+        let m : n + length (t ∷ l) ≡ n + 1 + length l = omega arith in
+        ap (λ (k : ℕ). cond c (Sound k) Malformed) m
+    go true false c l = refl
+    go false b c l = refl
+
+module _ (s : Text) (i n : ℕ) (x : Validity) (inv : x ≡ soundFrom n (drop i (slots s))) where
+  module _ (h : i < length s / 38) (g : Bool) (p : g ≡ soundAt (getD (slots s) i []) (drop (i + 1) (slots s))) where
+    pub slots-wrong : g ≡ false → Malformed ≡ x
+    slots-wrong f = rw (inv, slots-here s i h, sound-first, ← p, f)
+
+    module _ (f : g ≡ true) (t : Text) (e : t ≡ getD (slots s) i []) (k : Bool) (q : k ≡ isLiveSlot t) where
+      pub slots-live : k ≡ true → x ≡ soundFrom (n + 1) (drop (i + 1) (slots s))
+      slots-live z = rw (inv, slots-here s i h, sound-first, ← p, f, ← e, ← q, z)
+
+      pub slots-free : k ≡ false → x ≡ soundFrom n (drop (i + 1) (slots s))
+      slots-free z = rw (inv, slots-here s i h, sound-first, ← p, f, ← e, ← q, z)
+
+  pub slots-end : length s / 38 ≤ i → Sound n ≡ x
+  unfolding soundFrom
+  slots-end h = rw (inv, slots-past s i h) (ap Sound (omega arith))
+
+pub ruleset for-sound-slots = (needs, slots-wrong, slots-live, slots-free, slots-end)
+
 -- valid
 module _ (s : Text) where
   pub valid-odd : (length s % 38 ≡ 0 → ⊥) → Malformed ≡ validOf s
@@ -178,18 +223,10 @@ module _ (s : Text) where
     unfolding validOf ledgerOk slotsIn
     valid-long l = rw (eq-eqb _ _ w, lt-leb _ _ l)
 
-    module _ (l : length s / 38 ≤ 100000) (g : Bool) (p : g ≡ all slotForm (slots s)) where
-      pub valid-unformed : g ≡ false → Malformed ≡ validOf s
-      unfolding validOf ledgerOk slotsIn
-      valid-unformed f = rw (eq-eqb _ _ w, le-leb _ _ l, ← p, f)
+    pub valid-slots : (r : Validity) → length s / 38 ≤ 100000 → r ≡ soundFrom 0 (slots s) → r ≡ validOf s
+    unfolding validOf ledgerOk slotsIn liveIn soundFrom
+    valid-slots r l e =
+        let m : 0 + length (those isLiveSlot (slots s)) ≡ length (those isLiveSlot (slots s)) = omega arith in
+        rw (e, eq-eqb _ _ w, le-leb _ _ l, length-map, m)
 
-      module _ (f : g ≡ true) (k : Bool) (q : k ≡ adjacent slotFollows (slots s)) where
-        pub valid-disordered : k ≡ false → Malformed ≡ validOf s
-        unfolding validOf ledgerOk slotsIn
-        valid-disordered z = rw (eq-eqb _ _ w, le-leb _ _ l, ← p, f, ← q, z)
-
-        pub valid-sound : (n : ℕ) → k ≡ true → n ≡ length (those isLiveSlot (slots s)) → Sound n ≡ validOf s
-        unfolding validOf ledgerOk slotsIn liveIn
-        valid-sound n z c = rw (eq-eqb _ _ w, le-leb _ _ l, ← p, f, ← q, z) (ap Sound (c ∙ sym (length-map (those isLiveSlot (slots s)) (drop 1))))
-
-pub ruleset for-valid = (needs, valid-odd, valid-long, valid-unformed, valid-disordered, valid-sound)
+pub ruleset for-valid = (needs, valid-odd, valid-long, valid-slots)

@@ -8,9 +8,24 @@ use lib.ListN.{length, getD}
 use lib.Dec.{leb, ltb}
 use Rattle.house.specs.declared.Order.{Order}
 use Rattle.house.specs.declared.Order.the-variants.{More}
-use Rattle.house.specs.Text.{Text, those, count, adjacent, orderOf, below}
+use Rattle.house.specs.Text.{Text, all, those, count, adjacent, orderOf, below}
 use Rattle.events.specs.Events.{eventsAt, ascends}
-use Rattle.ledger.specs.Ledger.{slotBytes, slots, isLiveSlot, slotFollows, liveIn, foundIn, liveSlot, eventsAfter}
+use Rattle.ledger.specs.declared.Validity.{Validity}
+use Rattle.ledger.specs.declared.Validity.the-variants.{Sound, Malformed}
+use Rattle.ledger.specs.Ledger.{slotBytes, slots, isLiveSlot, slotForm, slotFollows, liveIn, foundIn, liveSlot, eventsAfter}
+
+-- the first of the slots behind slot t, if there is one, may follow it
+unfoldable pub followed : Text → List Text → Bool
+followed t [] = true
+followed t (u ∷ us) = slotFollows t u
+
+-- slot t has the form of its kind, and may be followed as it is
+unfoldable pub soundAt : Text → List Text → Bool
+soundAt t ts = slotForm t && followed t ts
+
+-- what the check answers where n slots are live and these are left
+unfoldable pub soundFrom : ℕ → List Text → Validity
+soundFrom n ts = cond (all slotForm ts && adjacent slotFollows ts) (Sound (n + length (those isLiveSlot ts))) Malformed
 
 -- a slot's place in the order is by all of its bytes
 abbrev pub whole : Text → Text

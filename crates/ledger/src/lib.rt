@@ -8,12 +8,12 @@ ghost use mathlib.Core.List.{[], _∷_, _++_};
 ghost use Prim.Native.Nat.{_+_, _*_, _-_, _/_, _%_, _<_, _≤_};
 ghost use lib.ListN.{length, getD, take, drop, set, replicate};
 ghost use lib.Dec.{leb};
-ghost use Rattle.house.specs.Text.{all, adjacent, those, count, orderOf};
+ghost use Rattle.house.specs.Text.{adjacent, those, count, orderOf};
 ghost use Rattle.events.specs.Events.{eventAt, eventsAt, ascends};
 ghost use Rattle.events.specs.Sorted.{place};
 ghost use Rattle.events.specs.Inside.{Asc, Up};
 ghost use Rattle.ledger.specs.Ledger.{slots, eventForm, isLiveSlot, isFreeSlot, slotForm, slotFollows, validOf, eventIn, slotsAsked, foundIn, liveIn, less, eventsAfter, liveSlot, ledgerWith, isFit, updated};
-ghost use Rattle.ledger.specs.Inside.{whole, slotsFor, headOrder, goesLast, lastOf, hasRoom, Fit};
+ghost use Rattle.ledger.specs.Inside.{soundAt, soundFrom, whole, slotsFor, headOrder, goesLast, lastOf, hasRoom, Fit};
 
 // What the check of a ledger answers: how many events are live, or that it has not the form.
 pub enum Validity {
@@ -82,22 +82,6 @@ fn has_form(slot: &[u8]) -> bool
     }
 }
 
-// Whether each slot has the form of its kind.
-fn all_formed(ledger: &[u8]) -> bool
-    ensures { λ r. ⌜ r ≡ all slotForm (slots (now (ledger .entry))) ⌝ }
-{
-    let n = ledger.len() / 38;
-    let mut i = 0;
-    while i < n {
-        if has_form(slot(ledger, i)) {
-            i += 1;
-        } else {
-            return false;
-        }
-    }
-    true
-}
-
 // Whether slot t may follow slot s: live slots come first and ascend.
 fn may_follow(s: &[u8], t: &[u8]) -> bool
     requires { ⌜ 0 < length (now s) ⌝ }
@@ -150,6 +134,45 @@ fn count_live(ledger: &[u8]) -> usize
     live
 }
 
+// Whether slot i has the form of its kind, and the next, if there is one, may follow it.
+fn is_sound_at(ledger: &[u8], i: usize) -> bool
+    requires { ⌜ i < length (now ledger) / 38 ⌝ }
+    ensures { λ r. ⌜ r ≡ soundAt (getD (slots (now (ledger .entry))) i []) (drop (i + 1) (slots (now (ledger .entry)))) ⌝ }
+{
+    let t = slot(ledger, i);
+    if has_form(t) {
+        if i + 1 < ledger.len() / 38 {
+            may_follow(t, slot(ledger, i + 1))
+        } else {
+            true
+        }
+    } else {
+        false
+    }
+}
+
+// Whether each slot has its form and may follow the one before it, and how many are live: one pass.
+fn sound_slots(ledger: &[u8]) -> Validity
+    ensures { λ r. ⌜ r ≡ soundFrom 0 (slots (now (ledger .entry))) ⌝ }
+{
+    let n = ledger.len() / 38;
+    let mut live = 0;
+    let mut i = 0;
+    while i < n {
+        if is_sound_at(ledger, i) {
+            if is_live_slot(slot(ledger, i)) {
+                live += 1;
+                i += 1;
+                continue;
+            }
+            i += 1;
+        } else {
+            return Validity::Malformed;
+        }
+    }
+    Validity::Sound { live }
+}
+
 // Whether a ledger has the form, and how many events are live in it.
 pub fn valid(ledger: &[u8]) -> Validity
     ensures { λ r. ⌜ r ≡ validOf (now (ledger .entry)) ⌝ }
@@ -160,16 +183,7 @@ pub fn valid(ledger: &[u8]) -> Validity
     if 100000 < ledger.len() / 38 {
         return Validity::Malformed;
     }
-    if all_formed(ledger) {
-        if in_order(ledger) {
-            let live = count_live(ledger);
-            Validity::Sound { live }
-        } else {
-            Validity::Malformed
-        }
-    } else {
-        Validity::Malformed
-    }
+    sound_slots(ledger)
 }
 
 // How many slots are looked at where so many are said to be live.

@@ -11,8 +11,4 @@ valid-spec =
     (λ c. search for-valid)
     (λ c. search for-valid)
     (λ c. search for-valid)
-    (λ c. search for-valid)
-    (λ c. search for-valid)
-    (λ c. search for-valid)
-    (λ c. search for-valid)
     (λ c. search for-valid))
