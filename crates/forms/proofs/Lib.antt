@@ -1,0 +1,2 @@
+-- What the functions' own needs ask
+mod TextNeeds
