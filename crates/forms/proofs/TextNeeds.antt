@@ -26,13 +26,13 @@ use Rattle.forms.specs.Leaves.{inClass, valueOf, digitsLen}
 
 -- Classes of bytes
 module _ (lo hi b : ℕ) where
-  within-yes : lo ≤ b → b ≤ hi → within lo hi b ≡ true
+  pub within-yes : lo ≤ b → b ≤ hi → within lo hi b ≡ true
   within-yes h k = simp (le-leb _ _ h, le-leb _ _ k)
 
-  within-low : b < lo → within lo hi b ≡ false
+  pub within-low : b < lo → within lo hi b ≡ false
   within-low h = simp (lt-leb _ _ h)
 
-  within-high : hi < b → within lo hi b ≡ false
+  pub within-high : hi < b → within lo hi b ≡ false
   within-high h = go (leb lo b)
     where
       go : (t : Bool) → t && leb b hi ≡ false

@@ -1,14 +1,12 @@
 -- What the functions on texts and lines answer where the rules' own definitions have no name for it.
 -- Assumes nothing.
-use Prim.Native.Nat.{ℕ, _+_, _*_, _<_}
-use mathlib.Core.Path.{_≡_}
-use mathlib.Core.Bool.{Bool, true, false, not, cond, _&&_, _||_}
-use mathlib.Core.List.{List, [], _∷_}
+use Prim.Native.Nat.{ℕ}
+use mathlib.Core.Bool.{Bool, not, cond, _&&_, _||_}
 use lib.ListN.{length}
-use lib.Dec.{eqb, ltb}
-use Rattle.house.specs.Text.{Text, bytes, any, front, isEmpty, same, isDigit, isLetter, isLetterOrDigit, isGraphic, run, number}
-use Rattle.lines.specs.Records.{Rec, II, isKind}
-use Rattle.rules.specs.Forms.{lotByte}
+use lib.Dec.{eqb}
+use Rattle.house.specs.Text.{Text, bytes, front, isEmpty, same, isDigit, isLetter, isLetterOrDigit, isGraphic, run, number}
+use Rattle.lines.specs.Records.{Rec}
+use Rattle.rules.specs.Forms.{lotByte, isMissing, isMisformed}
 
 -- The classes of bytes by number: digits, letters, letters or digits, those or dashes, and what shows
 unfoldable pub inClass : ℕ → ℕ → Bool
@@ -23,15 +21,13 @@ valueOf t = cond (run 1 9 isDigit t) (number t) 0
 unfoldable pub digitsLen : Text → ℕ
 digitsLen t = length (front isDigit t)
 
--- A text of at most three bytes as one number: its length, and its bytes behind it; 0 for a longer one
-abbrev pub packedFrom : ℕ → Text → ℕ
-packedFrom n [] = n
-packedFrom n (b ∷ t) = packedFrom (n * 256 + b) t
+-- II 18 and 19 relax an event: "18 is neither empty nor AB, or 18 is empty and 19 is not"
+unfoldable pub refusedBy : Text → Text → Bool
+refusedBy t why = (not (isEmpty t) && not (same t (bytes "AB"))) || (isEmpty t && not (isEmpty why))
 
-unfoldable pub packedOf : Text → ℕ
-packedOf t = cond (ltb 3 (length t)) 0 (packedFrom (length t) t)
+-- which of rules 1 and 2 is broken at field f of a line of kind k, and where neither is, a later one's number, or 0
+unfoldable pub lowest : ℕ → Rec → ℕ → ℕ → ℕ
+lowest k l f later = cond (isMissing k l f) 1 (cond (isMisformed k l f) 2 later)
 
--- each element is a byte
-abbrev pub Bytes : Text → Type 0
-Bytes [] = Unit {0}
-Bytes (b ∷ t) = (b < 256) × Bytes t
+abbrev pub basicRule : ℕ → Rec → ℕ → ℕ
+basicRule k l f = lowest k l f 0

@@ -1,6 +1,17 @@
 // Forms: what is judged from texts alone, without code book, ledger or position.
+mod fields;
 mod texts;
 
+pub use fields::basic_rule;
+pub use fields::form_of;
+pub use fields::is_given;
+pub use fields::is_judged;
+pub use fields::is_misformed;
+pub use fields::is_missing;
+pub use fields::is_optional;
+pub use fields::is_sound;
+pub use fields::lacks;
+pub use fields::relaxed;
 pub use texts::is_batch;
 pub use texts::is_code;
 pub use texts::is_count;
