@@ -3,3 +3,4 @@ pub mod FieldLaws
 -- What the functions' own needs ask
 mod TextNeeds
 mod FieldNeeds
+mod CodeNeeds

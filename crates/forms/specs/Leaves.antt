@@ -1,9 +1,10 @@
 -- What the functions on texts and lines answer where the rules' own definitions have no name for it.
 -- Assumes nothing.
-use Prim.Native.Nat.{ℕ}
+use Prim.Native.Nat.{ℕ, _+_, _*_, _<_}
+use mathlib.Core.Path.{_≡_}
 use mathlib.Core.Bool.{Bool, not, cond, _&&_, _||_}
-use lib.ListN.{length}
-use lib.Dec.{eqb}
+use lib.ListN.{length, getD}
+use lib.Dec.{eqb, ltb}
 use Rattle.house.specs.Text.{Text, bytes, front, isEmpty, same, isDigit, isLetter, isLetterOrDigit, isGraphic, run, number}
 use Rattle.lines.specs.Records.{Rec}
 use Rattle.rules.specs.Forms.{lotByte, isMissing, isMisformed}
@@ -31,3 +32,14 @@ lowest k l f later = cond (isMissing k l f) 1 (cond (isMisformed k l f) 2 later)
 
 abbrev pub basicRule : ℕ → Rec → ℕ → ℕ
 basicRule k l f = lowest k l f 0
+
+-- A text of at most three bytes as one number: its length, and its bytes behind it; 0 for a longer one
+unfoldable pub packedOf : Text → ℕ
+packedOf t = cond (ltb 3 (length t)) 0 (length t * 16777216 + getD t 0 0 * 65536 + getD t 1 0 * 256 + getD t 2 0)
+
+-- n is that number, of a text whose elements are bytes
+pub record Packed (t : Text) (n : ℕ) : Type 0 where
+  pub exact : n ≡ packedOf t
+  pub first : getD t 0 0 < 256
+  pub second : getD t 1 0 < 256
+  pub third : getD t 2 0 < 256

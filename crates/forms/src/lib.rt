@@ -1,7 +1,13 @@
 // Forms: what is judged from texts alone, without code book, ledger or position.
+mod codes;
 mod fields;
 mod texts;
 
+pub use codes::is_method;
+pub use codes::is_site;
+pub use codes::method_wrong;
+pub use codes::reason_read;
+pub use codes::site_wrong;
 pub use fields::basic_rule;
 pub use fields::form_of;
 pub use fields::is_given;
