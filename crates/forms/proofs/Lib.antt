@@ -4,3 +4,6 @@ pub mod FieldLaws
 mod TextNeeds
 mod FieldNeeds
 mod CodeNeeds
+mod ListNeeds
+mod VerdictNeeds
+mod BlockNeeds

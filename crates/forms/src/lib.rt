@@ -1,8 +1,14 @@
 // Forms: what is judged from texts alone, without code book, ledger or position.
+mod blocks;
 mod codes;
 mod fields;
+mod lists;
 mod texts;
+mod verdicts;
 
+pub use blocks::in_block;
+pub use blocks::joins;
+pub use blocks::same_event;
 pub use codes::is_method;
 pub use codes::is_site;
 pub use codes::method_wrong;
@@ -18,6 +24,12 @@ pub use fields::is_optional;
 pub use fields::is_sound;
 pub use fields::lacks;
 pub use fields::relaxed;
+pub use lists::any_antigen;
+pub use lists::any_lot;
+pub use lists::counts_sound;
+pub use lists::dose_of;
+pub use lists::same_count;
+pub use lists::sets_differ;
 pub use texts::is_batch;
 pub use texts::is_code;
 pub use texts::is_count;
@@ -39,3 +51,9 @@ pub use texts::is_total;
 pub use texts::is_type;
 pub use texts::is_uli;
 pub use texts::value;
+pub use verdicts::date_rule;
+pub use verdicts::day_rule;
+pub use verdicts::lot_rule;
+pub use verdicts::number_rule;
+pub use verdicts::uli_rule;
+pub use verdicts::version_rule;
