@@ -1,5 +1,6 @@
 -- Laws for the crates above
 pub mod FieldLaws
+pub mod SoundLaws
 -- What the functions' own needs ask
 mod TextNeeds
 mod FieldNeeds
@@ -7,3 +8,5 @@ mod CodeNeeds
 mod ListNeeds
 mod VerdictNeeds
 mod BlockNeeds
+-- No second answer
+mod OneAnswer

@@ -21,7 +21,8 @@ use Rattle.lines.specs.Records.{Rec, recOf, isKind}
 use Rattle.rules.specs.Forms.{text, isMissing, isMisformed, isSound}
 use Rattle.rules.specs.Rules.{sameLot}
 use Rattle.forms.specs.Leaves.{lowest, valueOf, numberLater, uliLater, dayLater, bornAfter, dateLater, versionLater, lotLater}
-use Rattle.forms.proofs.FieldLaws.{text-is, ip-25}
+use Rattle.forms.proofs.FieldLaws.{text-is}
+use Rattle.forms.proofs.SoundLaws.{ip-25}
 
 -- the lowest rule: 1 or 2, or a later one where neither is broken
 module _ (k : ℕ) (l : Rec) (f later r : ℕ) (e : r ≡ lowest k l f 0) where
