@@ -1,22 +1,21 @@
 -- What each need of the functions on a line's fields asks.
 -- Assumes nothing.
-use mathlib.Core.Path.{_≡_, refl, sym, ap, _∙_}
+use mathlib.Core.Path.{_≡_, refl, sym, _∙_}
 use mathlib.Core.Bool.{Bool, true, false, not, cond, _&&_, _||_}
 use mathlib.Core.List.{List, [], _∷_}
 use Prim.Native.Nat.{ℕ, zero, suc, _+_, _≤_, _<_}
 use native.Mathlib.Omega.{arith}
 use borrow.Author.Needs.{needs}
 use borrow.Author.Tests.{eq-eqb, ne-eqb, le-leb}
-use lib.Dec.{eqb, leb}
+use lib.Dec.{eqb}
 use lib.ListN.{length}
-use Rattle.house.specs.Text.{Text, any, within, isEmpty, same, bytes}
-use Rattle.house.specs.Dates.{isDate}
+use Rattle.house.specs.Text.{Text, any, within, same}
 use Rattle.house.proofs.Small.{Three, lt, eq, gt, three}
 use Rattle.lines.specs.Lines.{fieldsOf, fieldOf}
 use Rattle.lines.specs.Records.{Rec, recOf}
-use Rattle.rules.specs.Forms.{anything, isPrefix, isBatch, isTotal, isNumber, isUli, isType, isHistorical, isCode, isSiteText, isMethodText, isReason, isDosage, isDosageType, isManufacturer, isLot, isCount, isReasonNot, isOrganization, isGrade, table, formOf, isJudged, text, isRelaxed, relaxedBy, isOptional, isMissing, isMisformed, isSound, isGiven}
+use Rattle.rules.specs.Forms.{anything, table, formOf, isJudged, relaxedBy, isOptional, isMissing, isMisformed, isSound, isGiven}
 use Rattle.rules.specs.Rules.{lacks}
-use Rattle.forms.specs.Leaves.{refusedBy, lowest, basicRule}
+use Rattle.forms.specs.Leaves.{refusedBy, lowest}
 use Rattle.forms.proofs.TextNeeds.{within-yes, within-low, within-high}
 use Rattle.forms.proofs.FieldLaws.{text-is, field-is, relaxed-is, empty-true, empty-false}
 

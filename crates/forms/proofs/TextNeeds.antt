@@ -14,7 +14,7 @@ use lib.Seq.{take-all}
 use Rattle.house.specs.declared.Date.{Date}
 use Rattle.house.specs.declared.Dated.{Dated}
 use Rattle.house.specs.declared.Dated.the-variants.{Day, NoDate}
-use Rattle.house.specs.Text.{Text, bytes, all, any, front, behind, same, oneOf, within, run, digits, number, isDigit, isLetter, isLetterOrDigit, isGraphic}
+use Rattle.house.specs.Text.{Text, all, any, front, behind, same, within, run, digits, number, isDigit, isLetter, isLetterOrDigit, isGraphic}
 use Rattle.house.specs.Dates.{isDate, datedOf}
 use Rattle.house.proofs.Small.{both}
 use Rattle.house.proofs.Suffix.{drop-here, drop-past}
