@@ -1,0 +1,14 @@
+-- The laws of the crate, for the crates above and for its own proofs.
+-- Assumes nothing.
+-- Laws for the crates above
+pub mod FieldLaws
+pub mod SoundLaws
+-- What the functions' own needs ask
+mod TextNeeds
+mod FieldNeeds
+mod CodeNeeds
+mod ListNeeds
+mod VerdictNeeds
+mod BlockNeeds
+-- No second answer
+mod OneAnswer
