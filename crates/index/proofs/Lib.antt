@@ -1,0 +1,8 @@
+-- The laws of the crate, for its own proofs and for the crates above.
+-- Assumes nothing.
+pub mod PassLaws
+pub mod NamedLaws
+pub mod SizeLaws
+pub mod TypeLaws
+pub mod FindLaws
+pub mod OnceLaws
