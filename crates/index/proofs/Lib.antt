@@ -6,3 +6,6 @@ pub mod SizeLaws
 pub mod TypeLaws
 pub mod FindLaws
 pub mod OnceLaws
+-- What the functions' own needs ask
+mod FindNeeds
+mod PartNeeds
