@@ -6,6 +6,10 @@ pub mod SizeLaws
 pub mod TypeLaws
 pub mod FindLaws
 pub mod OnceLaws
+pub mod StartLaws
 -- What the functions' own needs ask
 mod FindNeeds
+mod WalkNeeds
 mod PartNeeds
+-- No second answer
+mod OneAnswer

@@ -1,12 +1,12 @@
 -- The blocks of one type: the events of their places in the index are the definition's events of that type, in order.
 -- Assumes nothing.
-use mathlib.Core.Path.{_≡_, refl, sym, ap, _∙_, subst}
-use mathlib.Core.Bool.{Bool, true, false, cond, _&&_}
+use mathlib.Core.Path.{_≡_, refl, sym, ap, ap₂, _∙_, subst}
+use mathlib.Core.Bool.{Bool, true, false, cond, _&&_, _||_}
 use mathlib.Core.List.{List, [], _∷_, map}
 use Prim.Native.Nat.{ℕ, suc, _+_}
 use native.Mathlib.Nat.{add-zero}
 use lib.ListN.{length, drop, length-map}
-use Rattle.house.specs.Text.{Text, those, same}
+use Rattle.house.specs.Text.{Text, any, those, same}
 use Rattle.house.specs.Members.{Distinct}
 use Rattle.lines.specs.Lines.{fieldOf, linesLen}
 use Rattle.lines.specs.Records.{Rec, recOf, recs}
@@ -14,7 +14,8 @@ use Rattle.events.specs.Events.{eventAt, eventsAt, ascends}
 use Rattle.events.specs.Sorted.{place}
 use Rattle.events.proofs.Order.{length-place}
 use Rattle.events.proofs.SortedLaws.{asc-ascends, asc-sorted, those-sorted, keys-placed}
-use Rattle.ledger.specs.Ledger.{Event}
+use Rattle.ledger.specs.Ledger.{Event, isAmong, eventsAfter}
+use Rattle.ledger.proofs.UpdateLaws.{after-sorted}
 use Rattle.rules.specs.Forms.{fieldIn, text}
 use Rattle.rules.specs.Places.{Place, placesFrom, placesOf, placesIn}
 use Rattle.rules.specs.Blocks.{eventOf, begins, beginsBlock, eventsOf}
@@ -22,6 +23,11 @@ use Rattle.index.specs.Firsts.{startAfter, isFirst, startOf, firstsOf, i
 use Rattle.index.specs.Inside.{recAt}
 use Rattle.index.proofs.PassLaws.{ahead-first, ahead-rest}
 use Rattle.index.proofs.NamedLaws.{key-at}
+use Rattle.index.proofs.FindLaws.{any-sorted}
+
+any-map : (g : ℕ → Text) (q : Text → Bool) (ps : List ℕ) → any q (map g ps) ≡ any (λ (p : ℕ). q (g p)) ps
+any-map g q [] = refl
+any-map g q (p ∷ ps) = ap (λ (b : Bool). q (g p) || b) (any-map g q ps)
 
 typed-at : (f : Text) (type p : ℕ) → isTyped f type p ≡ same (text (recAt f p) 4) (type ∷ [])
 unfolding isTyped recAt recOf fieldOf fieldIn
@@ -69,7 +75,7 @@ module _ (f : Text) (type : ℕ) where
   firsts-events = events-from 1 [] (recs f) refl
 
   -- in the order of the index
-  part-sorted : partOf f type (indexOf f) ≡ place (eventAt f) (partOf f type (firstsOf f)) []
+  pub part-sorted : partOf f type (indexOf f) ≡ place (eventAt f) (partOf f type (firstsOf f)) []
   unfolding partOf indexOf
   part-sorted = those-sorted (eventAt f) (isTyped f type) (firstsOf f)
 
@@ -84,9 +90,26 @@ module _ (f : Text) (type : ℕ) where
       ap length part-sorted ∙ length-place (eventAt f) (partOf f type (firstsOf f)) [] ∙ add-zero (length (partOf f type (firstsOf f)))
       ∙ sym (length-map (partOf f type (firstsOf f)) (eventAt f)) ∙ ap length firsts-events
 
+  -- the same events
+  pub part-among : (e : Event) → isAmong (eventsAt f (partOf f type (indexOf f))) e ≡ isAmong (eventsOf (type ∷ []) (placesIn f)) e
+  unfolding isAmong eventsAt
+  part-among e =
+      any-map (eventAt f) (same e) (partOf f type (indexOf f)) ∙ ap (any (λ (p : ℕ). same e (eventAt f p))) part-sorted
+      ∙ any-sorted (λ (p : ℕ). same e (eventAt f p)) (eventAt f) (partOf f type (firstsOf f))
+      ∙ sym (any-map (eventAt f) (same e) (partOf f type (firstsOf f))) ∙ ap (any (same e)) firsts-events
+
   -- they ascend where no event is named twice
   pub part-ascends : Distinct (eventsOf (type ∷ []) (placesIn f)) → ascends (eventsAt f (partOf f type (indexOf f))) ≡ true
   unfolding eventsAt
   part-ascends d =
       ap (λ (ps : List ℕ). ascends (map (eventAt f) ps)) part-sorted
       ∙ asc-ascends (eventAt f) (place (eventAt f) (partOf f type (firstsOf f)) []) (asc-sorted (eventAt f) (partOf f type (firstsOf f)) (subst Distinct (sym firsts-events) d))
+
+-- what is live after an update by the places of the added and of the deleted is what the definition says
+pub part-after : (f : Text) (live : List Event) (added deleted : ℕ)
+    → eventsAfter live (eventsAt f (partOf f added (indexOf f))) (eventsAt f (partOf f deleted (indexOf f)))
+    ≡ eventsAfter live (eventsOf (added ∷ []) (placesIn f)) (eventsOf (deleted ∷ []) (placesIn f))
+part-after f live added deleted =
+    ap₂ (λ (x y : List ℕ). eventsAfter live (eventsAt f x) (eventsAt f y)) (part-sorted f added) (part-sorted f deleted)
+    ∙ after-sorted f live (partOf f added (firstsOf f)) (partOf f deleted (firstsOf f))
+    ∙ ap₂ (eventsAfter live) (firsts-events f added) (firsts-events f deleted)

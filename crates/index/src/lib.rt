@@ -2,14 +2,24 @@
 mod find;
 mod line;
 mod parts;
+mod walk;
 
 pub use find::names_before;
 pub use parts::count_of;
 pub use parts::keep;
 pub use parts::part_of;
+pub use walk::build;
+pub use walk::count_blocks;
 
 // An index is built, of so many blocks, or there are too many.
 pub enum Built {
     Blocks(usize),
     TooMany,
+}
+
+// A turn of the walk: whether the line begins a block, where the nearest II of the block that is then open starts, where the next line starts.
+struct Turn {
+    first: bool,
+    last: usize,
+    next: usize,
 }
