@@ -4,19 +4,19 @@ use mathlib.Core.Path.{_≡_, refl, sym, ap, _∙_, subst}
 use mathlib.Core.Logic.{_⊎_, inl, inr, ⊎-elim}
 use mathlib.Core.Bool.{Bool, true, false, cond, _&&_, _||_}
 use mathlib.Core.List.{List, [], _∷_}
-use Prim.Native.Nat.{ℕ, zero, suc, _+_, _-_, _≤_, _<_}
+use Prim.Native.Nat.{ℕ, zero, suc, _-_, _≤_, _<_}
 use native.Mathlib.Nat.{not-suc-le-zero, le-of-suc-le-suc}
 use native.Mathlib.Omega.{arith}
-use borrow.Author.Tests.{ltb-true, ltb-false, lt-ltb, le-ltb}
+use borrow.Author.Tests.{ltb-false, le-ltb}
 use lib.Dec.{T, ltb}
 use lib.ListN.{length, getD, drop}
 use Rattle.house.specs.declared.Order.{Order}
 use Rattle.house.specs.declared.Order.the-variants.{Less, Same, More}
-use Rattle.house.specs.Text.{Text, any, same, below, orderOf}
-use Rattle.house.specs.Search.{byOrder, halve}
+use Rattle.house.specs.Text.{Text, any, same, below}
+use Rattle.house.specs.Search.{halve}
 use Rattle.house.proofs.Small.{clash}
-use Rattle.house.proofs.Facts.{both, both-of, left-of, right-of, is-true, of-true, bool-ext}
-use Rattle.house.proofs.OrderAlgebra.{flipped, flip}
+use Rattle.house.proofs.Facts.{both, both-of, left-of, right-of, is-true, of-true}
+use Rattle.house.proofs.OrderAlgebra.{flip}
 use Rattle.house.proofs.Decisions.{order-refl, same-is, is-same-T, below-less, below-any}
 use Rattle.house.proofs.SearchLaws.{Climbs, Decides, hit, miss, climb-decides}
 use Rattle.lines.specs.Lines.{linesLen}
@@ -25,7 +25,7 @@ use Rattle.events.specs.Events.{eventAt}
 use Rattle.events.specs.Sorted.{putIn, place}
 use Rattle.events.specs.Inside.{Lt, Le, All}
 use Rattle.events.proofs.Ranks.{order, lt-le, le-refl, le-cases, lt-le-trans, le-lt-trans}
-use Rattle.events.proofs.Order.{all-map, all-at, all-put, all-place, put-le, put-gt}
+use Rattle.events.proofs.Order.{all-at, all-put, all-place, put-le, put-gt}
 use Rattle.ledger.specs.Ledger.{Event}
 use Rattle.rules.specs.Blocks.{begins}
 use Rattle.index.specs.Firsts.{startAfter, firstsOf, indexOf, namedBefore, standing, foundBefore}

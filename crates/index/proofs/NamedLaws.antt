@@ -4,31 +4,30 @@ use mathlib.Core.Path.{_≡_, refl, sym, ap, _∙_, subst}
 use mathlib.Core.Logic.{_⊎_, inl, inr, ⊎-elim}
 use mathlib.Core.Bool.{Bool, true, false, not, cond, _&&_, _||_, or-false}
 use mathlib.Core.List.{List, [], _∷_}
-use Prim.Native.Nat.{ℕ, suc, _≤_, _<_}
+use Prim.Native.Nat.{ℕ, _≤_}
 use native.Mathlib.Omega.{arith}
-use borrow.Author.Tests.{eqb-true, ne-eqb}
+use borrow.Author.Tests.{ne-eqb}
 use lib.Dec.{T, eqb, leb, ltb, eqb→eq, leb→le}
 use lib.ListN.{length, drop}
-use Rattle.house.specs.Text.{Text, any, all, same, within, run, isEmpty, isDigit, isGraphic, digits, number}
+use Rattle.house.specs.Text.{Text, any, all, same, within, run, isDigit, isGraphic, digits, number}
 use Rattle.house.specs.Members.{In}
 use Rattle.house.specs.Dates.{isDate, isDay}
-use Rattle.house.specs.Key.{keyOf}
 use Rattle.house.proofs.Small.{clash}
-use Rattle.house.proofs.Facts.{both, both-of, either, left-of, right-of, is-true, of-true, bool-ext}
+use Rattle.house.proofs.Facts.{both, both-of, either, left-of, right-of, of-true, bool-ext}
 use Rattle.house.proofs.Members.{any-in}
 use Rattle.house.proofs.Decisions.{same-is, is-same-T}
 use Rattle.house.proofs.Padding.{key-one}
-use Rattle.lines.specs.Lines.{lineOf, fieldOf, fieldsOf}
+use Rattle.lines.specs.Lines.{fieldOf, fieldsOf}
 use Rattle.lines.specs.Records.{Rec, II, IE, isKind, recOf, recs}
 use Rattle.events.specs.Events as events
 use Rattle.events.specs.Events.{eventAt}
 use Rattle.ledger.specs.Ledger.{Event}
 use Rattle.rules.specs.Forms.{fieldIn, text, isUli, isCode}
-use Rattle.rules.specs.Places.{Place, placesIn, noRec}
+use Rattle.rules.specs.Places.{noRec}
 use Rattle.rules.specs.Blocks.{isInBlock, eventOf, sameEvent, joins, nearestOf, blockIn, openAfter, joinsOpen, begins, beforeOpen, beforeBlock, isRepeated}
-use Rattle.rules.proofs.BlockLaws.{Named, named}
-use Rattle.index.specs.Firsts.{startAfter, firstsOf, namedBefore}
-use Rattle.index.specs.Inside.{recAt, Passed, firstsFrom, firstsIn}
+use Rattle.rules.proofs.BlockLaws.{named}
+use Rattle.index.specs.Firsts.{startAfter, namedBefore}
+use Rattle.index.specs.Inside.{recAt, Passed, firstsIn}
 use Rattle.index.proofs.PassLaws.{firsts-split, firsts-behind, firsts-ahead}
 
 -- 1. The fields that name an event

@@ -1,10 +1,10 @@
 -- Where the events of the index ascend, no block names an event that an earlier one names.
 -- Assumes nothing.
 use mathlib.Core.Path.{_≡_, refl, sym, ap, _∙_, subst}
-use mathlib.Core.Logic.{_⊎_, inl, inr, ⊎-elim}
+use mathlib.Core.Logic.{_⊎_, inl, inr}
 use mathlib.Core.Bool.{Bool, true, false, not, cond, _&&_, _||_}
-use mathlib.Core.List.{List, [], _∷_, map}
-use Prim.Native.Nat.{ℕ, suc, _<_}
+use mathlib.Core.List.{List, [], _∷_}
+use Prim.Native.Nat.{ℕ, _<_}
 use native.Mathlib.Omega.{arith}
 use borrow.Author.Tests.{ltb-true}
 use lib.Dec.{T, eqb, ltb, eqb→eq, eqb-refl}
@@ -12,7 +12,7 @@ use lib.ListN.{length, getD, drop}
 use Rattle.house.specs.Text.{Text, any, same, below}
 use Rattle.house.specs.Members.{In}
 use Rattle.house.proofs.Small.{clash}
-use Rattle.house.proofs.Facts.{both, both-of, either, left-of, right-of, is-true, of-true}
+use Rattle.house.proofs.Facts.{both, either, left-of, right-of, is-true, of-true}
 use Rattle.house.proofs.Decisions.{same-is, below-irrefl}
 use Rattle.lines.specs.Records.{Rec, IE, isKind, recs}
 use Rattle.events.specs.Events.{eventAt, eventsAt, ascends}
@@ -20,9 +20,9 @@ use Rattle.events.specs.Inside.{Lt, Asc}
 use Rattle.events.proofs.Order.{all-at}
 use Rattle.events.proofs.SortedLaws.{ascends-asc}
 use Rattle.ledger.specs.Ledger.{Event}
-use Rattle.rules.specs.Places.{Place, placesIn, noRec}
-use Rattle.rules.specs.Blocks.{isInBlock, eventOf, joins, nearestOf, blockIn, openAfter, joinsOpen, begins, beforeOpen, beforeBlock, isRepeated}
-use Rattle.index.specs.Firsts.{startAfter, firstsOf, indexOf, namedBefore}
+use Rattle.rules.specs.Places.{Place, placesIn}
+use Rattle.rules.specs.Blocks.{isInBlock, eventOf, joins, nearestOf, blockIn, openAfter, begins, beforeOpen, beforeBlock, isRepeated}
+use Rattle.index.specs.Firsts.{startAfter, indexOf, namedBefore}
 use Rattle.index.specs.Inside.{Passed, firstsFrom, firstsIn}
 use Rattle.index.proofs.PassLaws.{place-passed, firsts-split}
 use Rattle.index.proofs.NamedLaws.{not-IE, none-in, event-key, joins-event, at-hand, joined-in, rule-15}

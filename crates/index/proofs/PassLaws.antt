@@ -15,7 +15,7 @@ use Rattle.house.specs.Members.{In}
 use Rattle.house.proofs.Small.{clash, Three, lt, eq, gt, three}
 use Rattle.lines.specs.Lines.{lineOf, lineLen, linesLen}
 use Rattle.lines.specs.Records.{Rec, recOf, recs, read}
-use Rattle.lines.proofs.LineLaws.{line-pos, line-le, lines-step}
+use Rattle.lines.proofs.LineLaws.{line-pos, lines-step}
 use Rattle.lines.proofs.PartLaws.{recs-past}
 use Rattle.rules.specs.Places.{Place, placesFrom, placesOf, placesIn}
 use Rattle.rules.specs.Blocks.{begins}
@@ -64,10 +64,6 @@ module _ (f : Text) (p : ℕ) where
     pub next-past : p < nextLine f p
     unfolding nextLine
     next-past = omega (arith, line-pos (drop p f) (omega (arith, length-drop p f)))
-
-    pub next-in : nextLine f p ≤ length f
-    unfolding nextLine
-    next-in = omega (arith, line-le (drop p f), length-drop p f)
 
 -- the line at hand, and the lines ahead
 module _ (f : Text) (before : List Rec) (l : Rec) (ls : List Rec) (e : l ∷ ls ≡ recs (drop (startAfter f before) f)) where

@@ -1,7 +1,7 @@
 -- How many blocks a file of right shape has: an II in a block takes 44 bytes at least, and the IE behind it 8.
 -- Assumes nothing.
 use mathlib.Core.Path.{_≡_, refl, sym, ap, _∙_, subst}
-use mathlib.Core.Bool.{Bool, true, false, not, cond, _&&_}
+use mathlib.Core.Bool.{Bool, true, false, not, cond}
 use mathlib.Core.List.{List, [], _∷_}
 use Prim.Native.Nat.{ℕ, zero, suc, _+_, _-_, _*_, _≤_, _<_}
 use native.Mathlib.Omega.{arith}
@@ -10,10 +10,9 @@ use lib.Dec.{T, eqb}
 use lib.ListN.{length, getD, drop, length-drop, length-map}
 use Rattle.house.specs.Text.{Text, those, isEmpty}
 use Rattle.house.proofs.Small.{clash}
-use Rattle.house.proofs.Facts.{of-true}
 use Rattle.lines.specs.declared.Shape.the-variants.{Right}
 use Rattle.lines.specs.Lines.{Line, pipe, endingOf, linesOf, lineOf, textLen, lineLen, lengthen, fieldsOf}
-use Rattle.lines.specs.Records.{Rec, II, IE, IF, kindOf, recordOf, countOf, recOf, recs}
+use Rattle.lines.specs.Records.{Rec, II, IE, kindOf, recordOf, countOf, recOf, recs}
 use Rattle.lines.specs.Shape.{isOne, follows, shapeOf}
 use Rattle.lines.specs.Inside.{RightFrom, RightLine}
 use Rattle.lines.proofs.LineLaws.{line-le, lines-step, ended-is}

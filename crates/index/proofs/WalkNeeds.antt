@@ -1,15 +1,15 @@
 -- What each need of the walk asks, and of the index that it builds.
 -- Assumes nothing.
-use mathlib.Core.Path.{_≡_, refl, sym, ap, ap₂, _∙_, subst}
+use mathlib.Core.Path.{_≡_, refl, sym, ap, ap₂, _∙_}
 use mathlib.Core.Bool.{Bool, true, false, not, cond, _&&_}
 use mathlib.Core.List.{List, [], _∷_, _++_, append-assoc, append-nil}
-use Prim.Native.Nat.{ℕ, zero, suc, _+_, _-_, _≤_, _<_}
+use Prim.Native.Nat.{ℕ, suc, _+_, _-_, _≤_, _<_}
 use native.Mathlib.Numerals.{add-one}
 use native.Mathlib.Omega.{arith}
 use borrow.Author.Needs.{needs}
 use borrow.Author.Tests.{eq-eqb, ne-eqb, le-leb, lt-leb}
 use lib.Dec.{T, eqb}
-use lib.ListN.{length, getD, take, drop, set, length-set, length-append, take-append-drop}
+use lib.ListN.{length, take, drop, set, length-set, length-append, take-append-drop}
 use lib.Seq.{take-at, drop-at, take-suc-set, drop-set-lt, drop-drop, length-take-le}
 use Rattle.house.specs.Text.{Text}
 use Rattle.house.proofs.Small.{clash}
@@ -19,7 +19,7 @@ use Rattle.lines.specs.Lines.{lineOf, LineIs, linesLen}
 use Rattle.lines.specs.Records.{Rec, IE, recordOf, isKind, recOf, recs}
 use Rattle.lines.proofs.LineLaws.{lines-past, at-next, at-text}
 use Rattle.events.specs.Events.{eventAt}
-use Rattle.events.specs.Sorted.{place, placesMost, canSort, sortedAt}
+use Rattle.events.specs.Sorted.{place, canSort, sortedAt}
 use Rattle.events.proofs.Order.{length-place}
 use Rattle.events.proofs.EventLaws.{at-from, at-in}
 use Rattle.forms.proofs.FieldLaws.{kind-is}
@@ -30,7 +30,7 @@ use Rattle.index.specs.declared.Built.the-variants.{Blocks, TooMany}
 use Rattle.index.specs.declared.Turn.{Turn}
 use Rattle.index.specs.Firsts.{startAfter, firstsOf, indexOf, over, canBuild, builtOf, builtIn}
 use Rattle.index.specs.Inside.{recAt, nextLine, firstsFrom, turnOf, Walk}
-use Rattle.index.proofs.PassLaws.{start-on, next-past, next-in, recs-at, firsts-on, firsts-start, firsts-none}
+use Rattle.index.proofs.PassLaws.{start-on, next-past, recs-at, firsts-on, firsts-start, firsts-none}
 use Rattle.index.proofs.NamedLaws.{not-IE}
 
 -- is_apart, left_open
@@ -114,9 +114,6 @@ module _ (f : Text) (at last : ℕ) (done : List ℕ) (w : Walk f at last done) 
 
     pub walk-past : at < t .next
     walk-past = omega (arith, t-next, next-past f at h)
-
-    pub walk-in : t .next ≤ length f
-    walk-in = omega (arith, t-next, next-in f at h)
 
     pub walk-falls : length f - t .next < length f - at
     walk-falls = omega (arith, walk-past)
