@@ -1,6 +1,6 @@
 -- Padded texts and the event key: how long they are, what they hold, and that no two texts pad to one.
 -- Assumes nothing.
-use mathlib.Core.Path.{_≡_, refl, ap, _∙_}
+use mathlib.Core.Path.{_≡_, refl, sym, ap, _∙_}
 use mathlib.Core.List.{[], _∷_, _++_, append-assoc}
 use Prim.Native.Nat.{ℕ, zero, suc, _+_, _≤_, _<_}
 use native.Mathlib.Nat.{not-suc-le-zero, le-of-suc-le-suc}
@@ -83,3 +83,13 @@ module _ (u d v : Text) where
   pub key-vaccine : drop 17 (keyOf u d v) ≡ pad 20 v
   unfolding keyOf
   key-vaccine = drop-at (pad 9 u ++ pad 8 d) (pad 20 v) 17 front-length
+
+-- one key, one event: of texts as wide as a ULI and a date, and codes that fit
+pub key-one : (u d v x y z : Text) → length u ≡ 9 → length x ≡ 9 → length d ≡ 8 → length y ≡ 8 → T (all isGraphic v) → T (all isGraphic z) → length v ≤ 20 → length z ≤ 20
+    → keyOf u d v ≡ keyOf x y z
+    → (u ≡ x) × (d ≡ y) × (v ≡ z)
+key-one u d v x y z lu lx ld ly gv gz lv lz e = (
+  sym (pad-whole 9 u lu) ∙ sym (key-uli u d v) ∙ ap (take 9) e ∙ key-uli x y z ∙ pad-whole 9 x lx,
+  sym (pad-whole 8 d ld) ∙ sym (key-date u d v) ∙ ap (λ (t : Text). take 8 (drop 9 t)) e ∙ key-date x y z ∙ pad-whole 8 y ly,
+  pad-inj 20 v z gv gz lv lz (sym (key-vaccine u d v) ∙ ap (drop 17) e ∙ key-vaccine x y z),
+)

@@ -58,12 +58,23 @@ module _ {B : Type 0} (row : ℕ → Order) (place : ℕ → B) (none : B) where
   abbrev pub Ascends : ℕ → Type 0
   Ascends n = (i j : ℕ) → i < j → j < n → (row i ≡ Less) ⊎ (row j ≡ More)
 
+  -- n rows that climb, of which several may be what is sought: before a row below it all are below it, behind a row above it all are above it
+  abbrev pub Climbs : ℕ → Type 0
+  Climbs n = (i j : ℕ) → i < j → j < n → (row j ≡ Less → row i ≡ Less) × (row i ≡ More → row j ≡ More)
+
+  ascending-climbs : (n : ℕ) → Ascends n → Climbs n
+  ascending-climbs n up i j h k = go (up i j h k)
+    where
+      go : (row i ≡ Less) ⊎ (row j ≡ More) → (row j ≡ Less → row i ≡ Less) × (row i ≡ More → row j ≡ More)
+      go (inl a) = ((λ b. a), (λ b. clash (cc)))
+      go (inr a) = ((λ b. clash (cc)), (λ b. a))
+
   -- x is the place of a row that is what is sought, or there is no such row
   pub data Decides (n : ℕ) (x : B) : Type 0 where
     hit : (m : ℕ) → m < n → row m ≡ Same → x ≡ place m → Decides n x
     miss : ((i : ℕ) → i < n → row i ≡ Same → ⊥) → x ≡ none → Decides n x
 
-  module _ (n : ℕ) (up : Ascends n) where
+  module _ (n : ℕ) (up : Climbs n) where
     -- the rows before lo stand below what is sought, those from hi on above it
     record Between (lo hi : ℕ) : Type 0 where
       top : hi ≤ n
@@ -81,24 +92,16 @@ module _ {B : Type 0} (row : ℕ → Order) (place : ℕ → B) (none : B) where
     more : (lo hi m : ℕ) → Between lo hi → m < hi → row m ≡ Less → Between (m + 1) hi
     more lo hi m b l e = record { top = b .top; low = λ i h. go i h (three i m); high = b .high }
       where
-        first : (i : ℕ) → (row i ≡ Less) ⊎ (row m ≡ More) → row i ≡ Less
-        first i (inl z) = z
-        first i (inr z) = clash (cc)
-
         go : (i : ℕ) → i < m + 1 → Three i m → row i ≡ Less
-        go i h (lt g) = first i (up i m g (omega (arith, b .top)))
+        go i h (lt g) = up i m g (omega (arith, b .top)) .0 e
         go i h (eq g) = ap row g ∙ e
         go i h (gt g) = absurd (omega arith)
 
     less : (lo hi m : ℕ) → Between lo hi → m < hi → row m ≡ More → Between lo m
     less lo hi m b l e = record { top = omega (arith, b .top); low = b .low; high = λ i h k. go i h k (three m i) }
       where
-        second : (i : ℕ) → (row m ≡ Less) ⊎ (row i ≡ More) → row i ≡ More
-        second i (inl z) = clash (cc)
-        second i (inr z) = z
-
         go : (i : ℕ) → m ≤ i → i < n → Three m i → row i ≡ More
-        go i h k (lt g) = second i (up m i g k)
+        go i h k (lt g) = up m i g k .1 e
         go i h k (eq g) = ap row (sym g) ∙ e
         go i h k (gt g) = absurd (omega arith)
 
@@ -118,6 +121,9 @@ module _ {B : Type 0} (row : ℕ → Order) (place : ℕ → B) (none : B) where
         go (eq g) r = nothing (suc f) lo hi b (omega arith)
         go (gt g) r = nothing (suc f) lo hi b (omega arith)
 
-    pub halve-decides : Decides n (halve row place none n 0 n)
-    halve-decides =
+    pub climb-decides : Decides n (halve row place none n 0 n)
+    climb-decides =
         decides n 0 n (record { top = omega arith; low = λ i l. absurd (omega arith); high = λ i l m. absurd (omega arith) }) (omega arith)
+
+  pub halve-decides : (n : ℕ) → Ascends n → Decides n (halve row place none n 0 n)
+  halve-decides n up = climb-decides n (ascending-climbs n up)

@@ -1,0 +1,15 @@
+-- The laws of the crate, for its own proofs and for the crates above.
+-- Assumes nothing.
+pub mod PassLaws
+pub mod NamedLaws
+pub mod SizeLaws
+pub mod TypeLaws
+pub mod FindLaws
+pub mod OnceLaws
+pub mod StartLaws
+-- What the functions' own needs ask
+mod FindNeeds
+mod WalkNeeds
+mod PartNeeds
+-- No second answer
+mod OneAnswer

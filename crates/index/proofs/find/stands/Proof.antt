@@ -1,0 +1,22 @@
+-- `index::find::stands` meets its contract.
+-- Assumes nothing.
+use Rattle.index.proofs.FindNeeds.{for-stands}
+use Rattle.index.proofs.find.stands.Statement.{statement}
+use Rattle.index.proofs.find.stands.Tie as tie
+
+pub stands-spec : {M : Type 1} → statement M
+stands-spec =
+    tie.close
+    (tie.spec
+    (λ c. search for-stands)
+    (λ c. search for-stands)
+    (λ c. search for-stands)
+    (λ c. search for-stands)
+    (λ c. search for-stands)
+    (λ c. search for-stands)
+    (λ c. search for-stands)
+    (λ c. search for-stands)
+    (λ c. search for-stands)
+    (λ c. search for-stands)
+    (λ c. search for-stands)
+    (λ c. search for-stands))

@@ -1,0 +1,13 @@
+-- `index::walk::left_open` meets its contract.
+-- Assumes nothing.
+use Rattle.index.proofs.WalkNeeds.{for-left-open}
+use Rattle.index.proofs.walk.left_open.Statement.{statement}
+use Rattle.index.proofs.walk.left_open.Tie as tie
+
+pub left-open-spec : {M : Type 1} → statement M
+left-open-spec =
+    tie.close
+    (tie.spec
+    (λ c. search for-left-open)
+    (λ c. search for-left-open)
+    (λ c. search for-left-open))

@@ -1,0 +1,4 @@
+-- The index of blocks, as the contracts cite it, and what the crate works by.
+-- Assumes nothing.
+pub mod Firsts
+pub mod Inside

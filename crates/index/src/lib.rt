@@ -1,0 +1,25 @@
+// The index of blocks: where the first II line of each block starts, by event; looking an event up in it, and its parts by submission type.
+mod find;
+mod line;
+mod parts;
+mod walk;
+
+pub use find::names_before;
+pub use parts::count_of;
+pub use parts::keep;
+pub use parts::part_of;
+pub use walk::build;
+pub use walk::count_blocks;
+
+// An index is built, of so many blocks, or there are too many.
+pub enum Built {
+    Blocks(usize),
+    TooMany,
+}
+
+// A turn of the walk: whether the line begins a block, where the nearest II of the block that is then open starts, where the next line starts.
+struct Turn {
+    first: bool,
+    last: usize,
+    next: usize,
+}
