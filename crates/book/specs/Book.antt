@@ -1,12 +1,20 @@
--- The code book: its entries, their form and order, and what it says of a code on a day.
+-- The code book: its entries, their form and order, what it says of a code on a day, and what reading it gives.
 -- Assumes nothing.
 use Prim.Native.Nat.{ℕ, zero, suc, _+_}
-use mathlib.Core.Bool.{Bool, true, false, not, cond, _&&_, _||_}
+use mathlib.Core.Path.{_≡_}
+use mathlib.Core.Bool.{Bool, true, cond, _&&_, _||_}
 use mathlib.Core.List.{List, [], _∷_, _++_}
 use lib.ListN.{length, take, drop}
 use lib.Dec.{eqb, ltb, leb}
-use Rattle.house.specs.Text.{Text, any, all, adjacent, within, below, same, digits, number, isPadded, pad}
+use Rattle.house.specs.Text.{Text, any, all, adjacent, within, below, same, digits, number, isPadded}
 use Rattle.house.specs.Dates.{isDate, isEnd}
+use Rattle.book.specs.declared.Read.{Read}
+use Rattle.book.specs.declared.Read.the-variants as read
+use Rattle.book.specs.declared.Sections.{Sections}
+use Rattle.book.specs.declared.Validity.{Validity}
+use Rattle.book.specs.declared.Validity.the-variants as validity
+use Rattle.book.specs.declared.Standing.{Standing}
+use Rattle.book.specs.declared.Standing.the-variants.{Unknown, OutOfForce, InForce}
 
 -- Kinds of entry, by number
 
@@ -139,9 +147,15 @@ startedBy d e = cond (eqb (e .kind) vaccine) (leb (number (startOf e)) d) true
 unfoldable pub inForce : ℕ → Entry → Bool
 inForce d e = startedBy d e && leb d (number (endOf e))
 
+-- the text with blanks behind it, up to w bytes. A longer text stays as it is, and is no code of that width.
+abbrev pub filled : ℕ → Text → Text
+filled zero t = t
+filled (suc w) [] = 32 ∷ filled w []
+filled (suc w) (b ∷ t) = b ∷ filled w t
+
 -- a code as the book writes it, of one text or of two
 unfoldable pub codeText : ℕ → Text → Text → Text
-codeText k a b = pad (firstWidth k) a ++ pad (secondWidth k) b
+codeText k a b = filled (firstWidth k) a ++ filled (secondWidth k) b
 
 -- the entry is of this kind and code
 unfoldable pub isEntry : ℕ → Text → Entry → Bool
@@ -154,3 +168,51 @@ listed es k code = any (isEntry k code) es
 -- and is in force on a day: such an entry is
 unfoldable pub listedOn : List Entry → ℕ → ℕ → Text → Bool
 listedOn es d k code = any (λ (e : Entry). isEntry k code e && inForce d e) es
+
+-- what the entries say of a code on a day: unknown; known, not in force; in force
+unfoldable pub standingOf : List Entry → ℕ → Text → ℕ → Standing
+standingOf es k code d = cond (listed es k code) (cond (listedOn es d k code) InForce OutOfForce) Unknown
+
+-- Reading a book
+
+-- the entry of kind k whose body starts these bytes
+unfoldable pub entryOf : ℕ → Text → Entry
+entryOf k s = record { kind = k; body = take (bodyWidth k) s }
+
+-- it is of a known kind, and whole
+unfoldable pub isWhole : ℕ → Text → Bool
+isWhole k s = within 1 8 k && leb (bodyWidth k) (length s)
+
+-- "the book's reader gives back its next position with each entry": what stands at a position, by the bytes from there on. An entry, with its
+-- kind, where its body starts, and the next position; the end; or no whole entry of a known kind.
+unfoldable pub readAt : ℕ → Text → Read
+readAt at [] = read.End
+readAt at (k ∷ s) = cond (isWhole k s) (read.Entry k (at + 1) (record { at = at + 1 + bodyWidth k })) read.Malformed
+
+-- how many bytes stand before the first entry of kind k or above: where the entries of kind k start
+unfoldable pub bytesBefore : ℕ → List Entry → ℕ
+bytesBefore k [] = 0
+bytesBefore k (e ∷ es) = cond (ltb (e .kind) k) (suc (bodyWidth (e .kind)) + bytesBefore k es) 0
+
+-- where the entries of each kind start, and where the last end
+unfoldable pub sectionsOf : Text → Sections
+sectionsOf s =
+    record {
+      antigens = bytesBefore antigen (entries s);
+      reasons = bytesBefore reason (entries s);
+      manufacturers = bytesBefore manufacturer (entries s);
+      «dosage_types» = bytesBefore dosageType (entries s);
+      «reasons_not» = bytesBefore reasonNot (entries s);
+      «with_reason» = bytesBefore withReason (entries s);
+      «with_antigen» = bytesBefore withAntigen (entries s);
+      end = bytesBefore 9 (entries s);
+    }
+
+-- a book is valid, and has these sections, exactly if it is well formed
+unfoldable pub validOf : Text → Validity
+validOf s = cond (bookOk s) (validity.Valid (sectionsOf s)) validity.Malformed
+
+-- a book that is well formed, and its sections
+pub record Sound (s : Text) (q : Sections) : Type 0 where
+  pub ok : bookOk s ≡ true
+  pub sections : q ≡ sectionsOf s

@@ -12,3 +12,4 @@ pub mod PadLaws
 pub mod DateLaws
 pub mod KeyLaws
 pub mod Padding
+pub mod OneAnswer

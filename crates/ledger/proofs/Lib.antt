@@ -1,2 +1,14 @@
+pub mod SlotLaws
+pub mod FormLaws
+pub mod LookLaws
+pub mod WriteLaws
+pub mod AmongLaws
+pub mod GapLaws
+pub mod BackLaws
+pub mod LiveLaws
+pub mod FoundLaws
+pub mod SizeLaws
+pub mod UpdateLaws
 pub mod EventLaws
 pub mod HeldLaws
+pub mod OneAnswer

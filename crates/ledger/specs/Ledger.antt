@@ -7,8 +7,12 @@ use mathlib.Core.Bool.{Bool, true, false, not, cond, _&&_, _||_}
 use mathlib.Core.List.{List, [], _∷_, _++_, map}
 use lib.ListN.{length, getD, take, drop, replicate}
 use lib.Dec.{eqb, leb}
-use Rattle.house.specs.Text.{Text, any, all, those, joined, adjacent, same, below, run, isDigit, isPadded}
+use Rattle.house.specs.Text.{Text, any, all, those, joined, adjacent, orderOf, same, below, run, isDigit, isPadded}
 use Rattle.house.specs.Dates.{isDate}
+use Rattle.house.specs.Search.{halve}
+use Rattle.events.specs.Events.{eventsAt, ascends}
+use Rattle.ledger.specs.declared.Validity.{Validity}
+use Rattle.ledger.specs.declared.Validity.the-variants.{Sound, Malformed}
 
 -- an event: the 37 bytes of its key
 abbrev pub Event : Type 0
@@ -61,8 +65,24 @@ ledgerOk s =
 unfoldable pub liveIn : Text → List Event
 liveIn s = map (drop 1) (those isLiveSlot (slots s))
 
+-- what the check of a ledger answers
+unfoldable pub validOf : Text → Validity
+validOf s = cond (ledgerOk s) (Sound (length (liveIn s))) Malformed
+
 unfoldable pub isAmong : List Event → Event → Bool
 isAmong es e = any (same e) es
+
+-- the event in slot i
+unfoldable pub eventIn : Text → ℕ → Event
+eventIn s i = drop 1 (getD (slots s) i [])
+
+-- how many slots are looked at where n are said to be live
+unfoldable pub slotsAsked : Text → ℕ → ℕ
+slotsAsked s n = cond (leb n (slotsIn s)) n (slotsIn s)
+
+-- what halving the first n slots finds. Of a ledger that is well formed, whose live events are n, it is whether the event is live.
+unfoldable pub foundIn : Text → ℕ → Event → Bool
+foundIn s n e = halve (λ (i : ℕ). orderOf (eventIn s i) e) (λ (i : ℕ). true) false (slotsAsked s n) 0 (slotsAsked s n)
 
 -- "exactly the events live before, plus the added, less the deleted"
 
@@ -88,3 +108,19 @@ liveSlot e = 1 ∷ e
 -- the ledger "in this form", in an area of n bytes, that holds these events: their slots, then free ones
 unfoldable pub ledgerWith : ℕ → List Event → Text
 ledgerWith n es = joined liveSlot es ++ replicate (n - length es * slotBytes) 0
+
+-- What an update does
+
+-- the ledger and the lines at these places are fit for an update: whole slots, live ones first and ascending; the events to add ascend,
+-- those to delete ascend, and what is live after has room
+unfoldable pub isFit : Text → Text → List ℕ → List ℕ → Bool
+isFit s f adds deletes =
+    eqb (length s % slotBytes) 0
+    && (adjacent slotFollows (slots s)
+    && (ascends (eventsAt f adds)
+    && (ascends (eventsAt f deletes) && leb (length (eventsAfter (liveIn s) (eventsAt f adds) (eventsAt f deletes))) (slotsIn s))))
+
+-- the ledger after it; as it was where they are not fit
+unfoldable pub updated : Text → Text → List ℕ → List ℕ → Text
+updated s f adds deletes =
+    cond (isFit s f adds deletes) (ledgerWith (length s) (eventsAfter (liveIn s) (eventsAt f adds) (eventsAt f deletes))) s

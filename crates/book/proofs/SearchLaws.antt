@@ -1,0 +1,214 @@
+-- What each need of the look-up asks: `Sections::start`, `codes_fit`, `code_order`, `section_count`, `probe`, `seek` and `find`.
+-- Assumes nothing.
+use mathlib.Core.Path.{_≡_, refl, sym, ap, _∙_}
+use mathlib.Core.Bool.{Bool, true, false}
+use mathlib.Core.List.{[], _∷_}
+use Prim.Native.Nat.{ℕ, zero, suc, _+_, _-_, _*_, _/_, _≤_, _<_}
+use native.Mathlib.Nat.{add-sub-cancel-left, suc-mul, mul-le-mul-right, div-mul-le-self, not-suc-le-zero, le-of-suc-le-suc}
+use native.Mathlib.Omega.{arith}
+use borrow.Author.Tests.{ne-eqb, le-leb, lt-leb, leb-true}
+use borrow.Author.Needs.{needs}
+use lib.Dec.{leb}
+use lib.ListN.{length, take, drop, length-drop}
+use lib.Seq.{drop-drop, take-add, length-take-le}
+use Rattle.house.specs.Text.{Text, orderOf, pad}
+use Rattle.house.specs.Search.{halve}
+use Rattle.house.specs.declared.Order.{Order}
+use Rattle.house.specs.declared.Order.the-variants.{Less, Same, More}
+use Rattle.house.proofs.Small.{both}
+use Rattle.house.proofs.OrderAlgebra.{orElse, order-append}
+use Rattle.house.proofs.OrderLaws.{length-pad}
+use Rattle.house.proofs.SearchLaws.{Halves, halves-start, halves-end, turn-up, turn-down, turn-hit}
+use Rattle.book.specs.declared.Sections.{Sections}
+use Rattle.book.specs.declared.Found.the-variants.{At, Absent}
+use Rattle.book.specs.Book.{firstWidth, secondWidth, codeWidth, bodyWidth, filled, codeText}
+use Rattle.book.specs.LookUp.{sectionStart, countIn, placeOf, orderAt, foundAt, fits, foundIn}
+use Rattle.book.specs.Inside.{codePadded}
+use Rattle.book.proofs.WidthLaws.{code-parts, body-parts}
+
+-- Sections::start
+module _ (q : Sections) (k : ℕ) where
+  pub section-at : (v w : ℕ) → k ≡ v → w ≡ sectionStart q v → w ≡ sectionStart q k
+  section-at v w e h = rw e h
+
+  pub section-none : (k ≡ 2 → ⊥) → (k ≡ 3 → ⊥) → (k ≡ 4 → ⊥) → (k ≡ 5 → ⊥) → (k ≡ 6 → ⊥) → (k ≡ 7 → ⊥) → (k ≡ 8 → ⊥) → (k ≡ 9 → ⊥) → 0 ≡ sectionStart q k
+  unfolding sectionStart
+  section-none a b c d e f g h = simp (ne-eqb _ _ a, ne-eqb _ _ b, ne-eqb _ _ c, ne-eqb _ _ d, ne-eqb _ _ e, ne-eqb _ _ f, ne-eqb _ _ g, ne-eqb _ _ h)
+
+pub ruleset for-section = (needs, section-at, section-none)
+
+-- codes_fit
+module _ (k : ℕ) (a b : Text) (w : ℕ) (e : w ≡ firstWidth k) where
+  pub fits-first : w < length a → false ≡ fits k a b
+  unfolding fits
+  fits-first h = rw (← e, lt-leb _ _ h)
+
+  module _ (h : length a ≤ w) (v : ℕ) (g : v ≡ secondWidth k) where
+    pub fits-second : v < length b → false ≡ fits k a b
+    unfolding fits
+    fits-second l = rw (← e, le-leb _ _ h, ← g, lt-leb _ _ l)
+
+    pub fits-both : length b ≤ v → true ≡ fits k a b
+    unfolding fits
+    fits-both l = rw (← e, le-leb _ _ h, ← g, le-leb _ _ l)
+
+pub ruleset for-codes-fit = (needs, fits-first, fits-second, fits-both)
+
+-- texts that fit, padded
+filled-pad : (w : ℕ) (t : Text) → length t ≤ w → filled w t ≡ pad w t
+unfolding pad
+filled-pad zero [] l = refl
+filled-pad zero (b ∷ t) l = absurd (not-suc-le-zero l)
+filled-pad (suc w) [] l = ap (λ (t : Text). 32 ∷ t) (filled-pad w [] (omega arith))
+filled-pad (suc w) (b ∷ t) l = ap (λ (t : Text). b ∷ t) (filled-pad w t (le-of-suc-le-suc l))
+
+pub code-text : (k : ℕ) (a b : Text) → fits k a b ≡ true → codeText k a b ≡ codePadded k a b
+unfolding codeText codePadded fits
+code-text k a b h =
+    let p = both (leb (length a) (firstWidth k)) (leb (length b) (secondWidth k)) h in
+    rw (filled-pad (firstWidth k) a (leb-true _ _ (p .0)), filled-pad (secondWidth k) b (leb-true _ _ (p .1)))
+
+-- code_order
+module _ (s : Text) (at k p q : ℕ) (hp : p ≡ firstWidth k) (hq : q ≡ secondWidth k) (l : at + codeWidth k ≤ length s) where
+  pub first-in : at + p ≤ length s
+  first-in = omega (arith, code-parts k)
+
+  pub second-in : at + p + q ≤ length s
+  second-in = omega (arith, code-parts k)
+
+  -- a part of the book, as the code lends it, against a padded text
+  part : (i w : ℕ) (x : Text) → i + w ≤ length s → orderOf (take (i + w - i) (drop i s)) (pad (length (take (i + w - i) (drop i s))) x) ≡ orderOf (take w (drop i s)) (pad w x)
+  part i w x h =
+      let n : i + w - i ≡ w = add-sub-cancel-left i w in
+      let m : length (take w (drop i s)) ≡ w = length-take-le w (drop i s) (omega (arith, length-drop i s)) in
+      rw (n, m)
+
+  module _ (a b : Text) where
+    whole : orderOf (take (codeWidth k) (drop at s)) (codePadded k a b) ≡ orElse (orderOf (take p (drop at s)) (pad p a)) (orderOf (take q (drop (at + p) s)) (pad q b))
+    unfolding codePadded
+    whole =
+        let w : codeWidth k ≡ p + q = omega (arith, code-parts k) in
+        let d : drop p (drop at s) ≡ drop (at + p) s = drop-drop p at s in
+        let n : length (take p (drop at s)) ≡ length (pad p a) = length-take-le p (drop at s) (omega (arith, first-in, length-drop at s)) ∙ sym (length-pad p a) in
+        rw (w, take-add p q (drop at s), d, ← hp, ← hq) (order-append (take p (drop at s)) (pad p a) (take q (drop (at + p) s)) (pad q b) n)
+
+    module _ (o : Order) (e : o ≡ orderOf (take (at + p - at) (drop at s)) (pad (length (take (at + p - at) (drop at s))) a)) where
+      first-is : (z : Order) → o ≡ z → orderOf (take (codeWidth k) (drop at s)) (codePadded k a b) ≡ orElse z (orderOf (take q (drop (at + p) s)) (pad q b))
+      first-is z h = whole ∙ ap (λ (y : Order). orElse y (orderOf (take q (drop (at + p) s)) (pad q b))) (sym (e ∙ part at p a first-in) ∙ h)
+
+      pub order-less : o ≡ Less → Less ≡ orderOf (take (codeWidth k) (drop at s)) (codePadded k a b)
+      order-less h = sym (first-is Less h)
+
+      pub order-more : o ≡ More → More ≡ orderOf (take (codeWidth k) (drop at s)) (codePadded k a b)
+      order-more h = sym (first-is More h)
+
+      pub order-same : (r : Order) → o ≡ Same → r ≡ orderOf (take (at + p + q - (at + p)) (drop (at + p) s)) (pad (length (take (at + p + q - (at + p)) (drop (at + p) s))) b) → r ≡ orderOf (take (codeWidth k) (drop at s)) (codePadded k a b)
+      order-same r h f = f ∙ part (at + p) q b second-in ∙ sym (first-is Same h)
+
+pub ruleset for-code-order = (needs, first-in, second-in, order-less, order-more, order-same)
+
+-- section_count
+module _ (s : Text) (q : Sections) (k from to : ℕ) (ef : from ≡ sectionStart q k) (et : to ≡ sectionStart q (k + 1)) where
+  pub count-back : to < from → 0 ≡ countIn s q k
+  unfolding countIn
+  count-back h = rw (← ef, ← et, lt-leb from to h)
+
+  pub count-out : from ≤ to → length s < to → 0 ≡ countIn s q k
+  unfolding countIn
+  count-out h l = rw (← ef, ← et, le-leb from to h, lt-leb to (length s) l)
+
+  module _ (w : ℕ) (ew : w ≡ bodyWidth k) (h : from ≤ to) (l : to ≤ length s) where
+    pub count-is : (to - from) / (w + 1) ≡ countIn s q k
+    unfolding countIn
+    count-is = rw (← ef, ← et, le-leb from to h, le-leb to (length s) l, ew)
+
+    pub count-in : (to - from) / (w + 1) * (bodyWidth k + 1) ≤ length s - sectionStart q k
+    count-in =
+        let m : (to - from) / (w + 1) * (w + 1) ≤ to - from = div-mul-le-self (to - from) (w + 1) in
+        let e : (to - from) / (w + 1) * (bodyWidth k + 1) ≡ (to - from) / (w + 1) * (w + 1) = ap (λ (y : ℕ). (to - from) / (w + 1) * (y + 1)) (sym ew) in
+        omega arith
+
+pub ruleset for-section-count = (needs, count-back, count-out, count-is, count-in)
+
+-- probe
+module _ (s : Text) (from n i k w : ℕ) (h : i < n) (g : n * (bodyWidth k + 1) ≤ length s - from) (ew : w ≡ bodyWidth k) where
+  probe-in : from + i * (w + 1) + (w + 1) ≤ length s
+  probe-in =
+      let a : suc i * (bodyWidth k + 1) ≤ n * (bodyWidth k + 1) = mul-le-mul-right (bodyWidth k + 1) (omega arith) in
+      let b : i * (w + 1) ≡ i * (bodyWidth k + 1) = ap (λ (y : ℕ). i * (y + 1)) ew in
+      omega (arith, suc-mul i (bodyWidth k + 1))
+
+  pub probe-at : from + i * (w + 1) ≡ placeOf k from i
+  unfolding placeOf
+  probe-at = ap (λ (y : ℕ). from + i * (y + 1)) ew
+
+  module _ (z : length s < 18446744073709551616) where
+    pub probe-mul : i * (w + 1) < 18446744073709551616
+    probe-mul = omega (arith, probe-in)
+
+    pub probe-add : from + i * (w + 1) < 18446744073709551616
+    probe-add = omega (arith, probe-in)
+
+    pub probe-body : from + i * (w + 1) + 1 < 18446744073709551616
+    probe-body = omega (arith, probe-in)
+
+  pub probe-code : from + i * (w + 1) + 1 + codeWidth k ≤ length s
+  probe-code = omega (arith, probe-in, body-parts k)
+
+  pub probe-order : (x : Text) (o : Order) → o ≡ orderOf (take (codeWidth k) (drop (from + i * (w + 1) + 1) s)) x → o ≡ orderAt s k from x i
+  unfolding orderAt
+  probe-order x o e = e ∙ ap (λ (y : ℕ). orderOf (take (codeWidth k) (drop (y + 1) s)) x) probe-at
+
+pub ruleset for-probe = (needs, probe-at, probe-mul, probe-add, probe-body, probe-code, probe-order)
+
+-- seek: what is left to halve
+abbrev pub Seeks : Text → ℕ → ℕ → ℕ → Text → ℕ → ℕ → Type 0
+Seeks s k from n x lo hi = Halves (orderAt s k from x) (foundAt k from) Absent (halve (orderAt s k from x) (foundAt k from) Absent n 0 n) lo hi
+
+module _ (s : Text) (k from n : ℕ) where
+  pub seek-start : (x : Text) → Seeks s k from n x 0 n
+  seek-start x = halves-start (orderAt s k from x) (foundAt k from) Absent n
+
+  pub seek-bound : (q : Sections) → from ≡ sectionStart q k → n * (bodyWidth k + 1) ≤ length s - sectionStart q k → n * (bodyWidth k + 1) ≤ length s - from
+  seek-bound q e h = rw e h
+
+  module _ (lo hi : ℕ) where
+    module _ (x : Text) (inv : Seeks s k from n x lo hi) (h : lo < hi) (o : Order) (e : o ≡ orderAt s k from x (lo + (hi - lo) / 2)) where
+      pub seek-up : o ≡ Less → Seeks s k from n x (lo + (hi - lo) / 2 + 1) hi
+      seek-up z = turn-up (orderAt s k from x) (foundAt k from) Absent (halve (orderAt s k from x) (foundAt k from) Absent n 0 n) lo hi inv h o (sym e) z
+
+      pub seek-down : o ≡ More → Seeks s k from n x lo (lo + (hi - lo) / 2)
+      seek-down z = turn-down (orderAt s k from x) (foundAt k from) Absent (halve (orderAt s k from x) (foundAt k from) Absent n 0 n) lo hi inv h o (sym e) z
+
+    module _ (q : Sections) (a b : Text) (inv : Seeks s k from n (codePadded k a b) lo hi) (ef : from ≡ sectionStart q k) (en : n ≡ countIn s q k) (g : k ≤ 8) (f : fits k a b ≡ true) where
+      sought : halve (orderAt s k from (codePadded k a b)) (foundAt k from) Absent n 0 n ≡ foundIn s q k a b
+      unfolding foundIn
+      sought = rw (le-leb k 8 g, f, ef, en, code-text k a b f)
+
+      pub seek-end : hi ≤ lo → Absent ≡ foundIn s q k a b
+      seek-end h = halves-end (orderAt s k from (codePadded k a b)) (foundAt k from) Absent (halve (orderAt s k from (codePadded k a b)) (foundAt k from) Absent n 0 n) lo hi inv h ∙ sought
+
+      pub seek-hit : lo < hi → (o : Order) (at : ℕ) → o ≡ orderAt s k from (codePadded k a b) (lo + (hi - lo) / 2) → at ≡ placeOf k from (lo + (hi - lo) / 2) → o ≡ Same → At (record { at = at }) ≡ foundIn s q k a b
+      unfolding foundAt
+      seek-hit h o at e p z =
+          ap (λ (y : ℕ). At (record { at = y })) p
+          ∙ turn-hit (orderAt s k from (codePadded k a b)) (foundAt k from) Absent (halve (orderAt s k from (codePadded k a b)) (foundAt k from) Absent n 0 n) lo hi inv h o (sym e) z
+          ∙ sought
+
+pub ruleset for-seek = (needs, seek-start, seek-bound, seek-up, seek-down, seek-end, seek-hit)
+
+-- find
+module _ (s : Text) (q : Sections) (k : ℕ) (a b : Text) where
+  pub find-kind : 8 < k → Absent ≡ foundIn s q k a b
+  unfolding foundIn
+  find-kind h = rw (lt-leb k 8 h)
+
+  module _ (g : k ≤ 8) (r : Bool) (e : r ≡ fits k a b) where
+    pub find-fits : r ≡ true → fits k a b ≡ true
+    find-fits h = sym e ∙ h
+
+    pub find-long : r ≡ false → Absent ≡ foundIn s q k a b
+    unfolding foundIn
+    find-long h = rw (le-leb k 8 g, ← e, h)
+
+pub ruleset for-find = (needs, find-kind, find-fits, find-long)

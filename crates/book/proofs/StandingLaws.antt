@@ -1,0 +1,309 @@
+-- What a look-up in a valid book says of its entries: the laws for the crates above, and what each need of `look_up` asks.
+-- Assumes nothing.
+use mathlib.Core.Path.{_≡_, refl, sym, ap, _∙_, subst}
+use mathlib.Core.Logic.{_⊎_, inl, inr}
+use mathlib.Core.Bool.{Bool, true, false, cond, _&&_}
+use mathlib.Core.List.{List, [], _∷_, _++_}
+use Prim.Native.Nat.{ℕ, zero, suc, _+_, _-_, _*_, _≤_, _<_}
+use native.Mathlib.Nat.{mul-div-cancel}
+use native.Mathlib.Omega.{arith}
+use borrow.Author.Tests.{eq-eqb, ne-eqb, le-leb, leb-true, leb-false}
+use borrow.Author.Needs.{needs}
+use lib.Dec.{eqb, leb}
+use lib.ListN.{length, take, drop, length-drop, length-append}
+use lib.Seq.{drop-drop, length-take-le}
+use Rattle.house.specs.Text.{Text, any, orderOf}
+use Rattle.house.specs.Search.{halve}
+use Rattle.house.specs.declared.Order.{Order}
+use Rattle.house.specs.declared.Order.the-variants.{Less, Same, More}
+use Rattle.house.proofs.Small.{clash, both, Three, lt, eq, gt, three}
+use Rattle.house.proofs.OrderAlgebra.{less-trans, same-eq}
+use Rattle.house.proofs.Decisions.{is-same, not-same, order-refl}
+use Rattle.house.proofs.SearchLaws.{Decides, hit, miss, halve-decides}
+use Rattle.book.specs.declared.Position.{Position}
+use Rattle.book.specs.declared.Sections.{Sections}
+use Rattle.book.specs.declared.Found.{Found}
+use Rattle.book.specs.declared.Found.the-variants.{At, Absent}
+use Rattle.book.specs.declared.Validity.{Validity}
+use Rattle.book.specs.declared.Validity.the-variants.{Valid, Malformed}
+use Rattle.book.specs.declared.Standing.{Standing}
+use Rattle.book.specs.declared.Standing.the-variants.{Unknown, OutOfForce, InForce}
+use Rattle.book.specs.Book.{firstWidth, secondWidth, codeWidth, bodyWidth, Entry, entryOf, entries, codeOf, entryForm, bytesBefore, bookOk, bookOf, sectionsOf, validOf, Sound, filled, codeText, isEntry, listed, listedOn, inForce, standingOf}
+use Rattle.book.specs.LookUp.{sectionStart, countIn, placeOf, orderAt, foundAt, fits, foundIn, inForceAt, standingAt, standingIn}
+use Rattle.book.specs.Inside.{soundFrom}
+use Rattle.book.proofs.WidthLaws.{code-parts, body-parts, by-kind}
+use Rattle.book.proofs.EntryLaws.{form-says, code-is, bytes-here, floor-zero}
+use Rattle.book.proofs.OrderlyLaws.{book-is}
+use Rattle.book.proofs.KindLaws.{none-sound, Rows, anyRow, rowAt, row-form, row-head, row-asc, any-miss, any-only, Only, rows-of, Skips, skips}
+
+-- look_up
+module _ (s : Text) (q : Sections) (k : ℕ) (a b : Text) (d : ℕ) (f : Found) (e : f ≡ foundIn s q k a b) where
+  pub look-no : f ≡ Absent → Unknown ≡ standingIn s q k a b d
+  unfolding standingIn
+  look-no g = rw (← e, g)
+
+  module _ (p : Position) (g : f ≡ At p) (r : Bool) (i : r ≡ inForceAt d (drop (p .at) s)) where
+    pub look-in : r ≡ true → InForce ≡ standingIn s q k a b d
+    unfolding standingIn
+    look-in z = rw (← e, g) (rw (← i, z))
+
+    pub look-out : r ≡ false → OutOfForce ≡ standingIn s q k a b d
+    unfolding standingIn
+    look-out z = rw (← e, g) (rw (← i, z))
+
+pub ruleset for-look-up = (needs, look-no, look-in, look-out)
+
+-- the section of a kind in a valid book: its entries, and no other of that kind
+book-sound : (s : Text) → bookOk s ≡ true → soundFrom 1 [] (entries s) ≡ true
+book-sound s h = both (leb (length s) 262144) (soundFrom 1 [] (entries s)) (sym (book-is s) ∙ h) .1
+
+bytes-zero : (es : List Entry) → bytesBefore 0 es ≡ 0
+unfolding bytesBefore
+bytes-zero [] = refl
+bytes-zero (e ∷ es) = bytes-here 0 e es (omega arith)
+
+starts-at : (s : Text) (k : ℕ) → bookOk s ≡ true → k ≤ 9 → sectionStart (sectionsOf s) k ≡ bytesBefore k (entries s)
+unfolding sectionStart sectionsOf
+starts-at s zero h l = sym (bytes-zero (entries s))
+starts-at s (suc zero) h l = sym (floor-zero 1 [] (entries s) (book-sound s h))
+starts-at s (suc (suc k)) h l = by-kind (λ (j : ℕ). sectionStart (sectionsOf s) (suc j) ≡ bytesBefore (suc j) (entries s)) refl refl refl refl refl refl refl refl (suc k) (omega arith) (omega arith)
+
+record Section (s : Text) (q : Sections) (k n : ℕ) : Type 0 where
+  count : countIn s q k ≡ n
+  rows : Rows k [] (drop (sectionStart q k) s) n
+  asks : (p : Entry → Bool) → Only k p → any p (entries s) ≡ anyRow k p (drop (sectionStart q k) s) n
+
+section : (s : Text) (q : Sections) → Sound s q → (k : ℕ) → k ≤ 8 → (n : ℕ) × Section s q k n
+unfolding countIn
+section s q h k g =
+    let from = sectionStart q k in
+    let to = sectionStart q (k + 1) in
+    let ef : from ≡ bytesBefore k (entries s) = ap (λ (y : Sections). sectionStart y k) (h .sections) ∙ starts-at s k (h .ok) (omega arith) in
+    let et : to ≡ bytesBefore (k + 1) (entries s) = ap (λ (y : Sections). sectionStart y (k + 1)) (h .sections) ∙ starts-at s (k + 1) (h .ok) (omega arith) in
+    let y : Skips k s from = subst (λ (i : ℕ). Skips k s i) (sym ef) (skips k s 1 [] (book-sound s (h .ok))) in
+    let z = rows-of k (drop from s) [] (y .sound) in
+    let t : to - from ≡ z .0 * (bodyWidth k + 1) = omega (arith, y .span, z .1 .span) in
+    let a : from ≤ to = omega (arith, y .span) in
+    let b : to ≤ length s = omega (arith, y .span, z .1 .span, z .1 .fits, y .within, length-drop from s) in (
+      z .0,
+      record {
+        count = rw (le-leb from to a, le-leb to (length s) b, t) (mul-div-cancel (z .0) (omega arith));
+        rows = z .1 .rows;
+        asks = λ p o. y .asks p o ∙ z .1 .asks p o;
+      },
+    )
+
+-- the entry that has a kind and a code, by tests
+module _ (k : ℕ) (x : Text) (e : Entry) where
+  is-entry : e .kind ≡ k → codeOf e ≡ x → isEntry k x e ≡ true
+  unfolding isEntry
+  is-entry p c = rw (eq-eqb (e .kind) k p, is-same (codeOf e) x c)
+
+  not-kind : (e .kind ≡ k → ⊥) → isEntry k x e ≡ false
+  unfolding isEntry
+  not-kind n = rw (ne-eqb (e .kind) k n)
+
+  not-code : (codeOf e ≡ x → ⊥) → isEntry k x e ≡ false
+  unfolding isEntry
+  not-code n = rw (not-same (codeOf e) x n) (go (eqb (e .kind) k))
+    where
+      go : (b : Bool) → (b && false) ≡ false
+      go true = refl
+      go false = refl
+
+pub standing-none : (es : List Entry) (k : ℕ) (x : Text) (d : ℕ) → listed es k x ≡ false → standingOf es k x d ≡ Unknown
+unfolding standingOf
+standing-none es k x d h = rw h
+
+-- a look-up by halving in the section
+module _ (s : Text) (q : Sections) (k n : ℕ) (sec : Section s q k n) (x : Text) where
+  abbrev from : ℕ
+  from = sectionStart q k
+
+  abbrev row : ℕ → Entry
+  row i = rowAt k (drop from s) i
+
+  order-is : (i : ℕ) → orderAt s k from x i ≡ orderOf (codeOf (row i)) x
+  unfolding orderAt placeOf rowAt
+  order-is i =
+      let e : from + i * (bodyWidth k + 1) + 1 ≡ from + (i * (bodyWidth k + 1) + 1) = omega arith in
+      ap (λ (t : Text). orderOf t x) (ap (λ (y : ℕ). take (codeWidth k) (drop y s)) e ∙ ap (take (codeWidth k)) (sym (drop-drop (i * (bodyWidth k + 1) + 1) from s)) ∙ sym (code-is k (drop (i * (bodyWidth k + 1) + 1) (drop from s))))
+
+  ascends : (i j : ℕ) → i < j → j < n → (orderAt s k from x i ≡ Less) ⊎ (orderAt s k from x j ≡ More)
+  ascends i j l m = go (orderOf (codeOf (row j)) x) refl
+    where
+      up : orderOf (codeOf (row i)) (codeOf (row j)) ≡ Less
+      up = row-asc k n [] (drop from s) (sec .rows) i j l m
+
+      go : (o : Order) → orderOf (codeOf (row j)) x ≡ o → (orderAt s k from x i ≡ Less) ⊎ (orderAt s k from x j ≡ More)
+      go Less e = inl (order-is i ∙ less-trans (codeOf (row i)) (codeOf (row j)) x up e)
+      go Same e = inl (order-is i ∙ ap (orderOf (codeOf (row i))) (sym (same-eq (codeOf (row j)) x e)) ∙ up)
+      go More e = inr (order-is j ∙ e)
+
+  only : (d : ℕ) → Only k (λ (e : Entry). isEntry k x e && inForce d e)
+  only d e m = rw (not-kind k x e m)
+
+  misses : ((i : ℕ) → i < n → orderAt s k from x i ≡ Same → ⊥) → listed (entries s) k x ≡ false
+  unfolding listed
+  misses f = sec .asks (isEntry k x) (not-kind k x) ∙ any-miss k (isEntry k x) n (drop from s) (λ i l. not-code k x (row i) (λ e. f i l (order-is i ∙ ap (λ (t : Text). orderOf t x) e ∙ order-refl x)))
+
+  module _ (m : ℕ) (l : m < n) (o : orderAt s k from x m ≡ Same) where
+    code : codeOf (row m) ≡ x
+    code = same-eq (codeOf (row m)) x (sym (order-is m) ∙ o)
+
+    -- no other has the code
+    others : (i : ℕ) → i < n → (i ≡ m → ⊥) → isEntry k x (row i) ≡ false
+    others i j f = not-code k x (row i) (λ e. go e (three i m))
+      where
+        off : (u v : ℕ) → u < v → v < n → codeOf (row u) ≡ codeOf (row v) → ⊥
+        off u v w z e = clash (cc (row-asc k n [] (drop from s) (sec .rows) u v w z, order-refl (codeOf (row v))))
+
+        go : codeOf (row i) ≡ x → Three i m → ⊥
+        go e (lt w) = off i m w l (e ∙ sym code)
+        go e (eq w) = f w
+        go e (gt w) = off m i w j (code ∙ sym e)
+
+    kind : row m .kind ≡ k
+    unfolding rowAt entryOf
+    kind = refl
+
+    hits-known : listed (entries s) k x ≡ true
+    unfolding listed
+    hits-known = sec .asks (isEntry k x) (not-kind k x) ∙ any-only k (isEntry k x) n (drop from s) m l others ∙ is-entry k x (row m) kind code
+
+    hits-on : (d : ℕ) → listedOn (entries s) d k x ≡ inForce d (row m)
+    unfolding listedOn
+    hits-on d =
+        sec .asks (λ (e : Entry). isEntry k x e && inForce d e) (only d)
+        ∙ any-only k (λ (e : Entry). isEntry k x e && inForce d e) n (drop from s) m l (λ i j f. rw (others i j f))
+        ∙ rw (is-entry k x (row m) kind code)
+
+    -- the entry that is found is the row
+    force : (d : ℕ) → inForceAt d (drop (placeOf k from m) s) ≡ inForce d (row m)
+    unfolding placeOf inForceAt rowAt
+    force d =
+        let e : from + m * (bodyWidth k + 1) ≡ from + (m * (bodyWidth k + 1) + 0) = omega arith in
+        ap (inForceAt d) (ap (λ (y : ℕ). drop y s) e ∙ sym (drop-drop (m * (bodyWidth k + 1) + 0) from s) ∙ row-head k n [] (drop from s) (sec .rows) m l)
+        ∙ rw (row-form k n [] (drop from s) (sec .rows) m l)
+
+    hits : (d : ℕ) → standingAt s d (foundAt k from m) ≡ standingOf (entries s) k x d
+    unfolding foundAt standingOf
+    hits d = rw (force d, hits-known, hits-on d)
+
+  finds : (d : ℕ) → standingAt s d (halve (orderAt s k from x) (foundAt k from) Absent (countIn s q k) 0 (countIn s q k)) ≡ standingOf (entries s) k x d
+  finds d = rw (sec .count) (go (halve-decides (orderAt s k from x) (foundAt k from) Absent n ascends))
+    where
+      go : Decides (orderAt s k from x) (foundAt k from) Absent n (halve (orderAt s k from x) (foundAt k from) Absent n 0 n)
+          → standingAt s d (halve (orderAt s k from x) (foundAt k from) Absent n 0 n) ≡ standingOf (entries s) k x d
+      go (hit m l o e) = rw e (hits m l o d)
+      go (miss f e) = rw e (sym (standing-none (entries s) k x d (misses f)))
+
+-- texts that do not fit are no code of the book
+filled-long : (w : ℕ) (t : Text) → (w ≤ length (filled w t)) × (length t ≤ length (filled w t))
+filled-long zero t = (omega arith, omega arith)
+filled-long (suc w) [] = (omega (arith, filled-long w [] .0), omega arith)
+filled-long (suc w) (b ∷ t) = (omega (arith, filled-long w t .0), omega (arith, filled-long w t .1))
+
+too-long : (k : ℕ) (a b : Text) → fits k a b ≡ false → codeWidth k < length (codeText k a b)
+unfolding fits codeText
+too-long k a b h = go (leb (length a) (firstWidth k)) (leb (length b) (secondWidth k)) refl refl h
+  where
+    go : (u v : Bool) → leb (length a) (firstWidth k) ≡ u → leb (length b) (secondWidth k) ≡ v → (u && v) ≡ false → codeWidth k < length (filled (firstWidth k) a ++ filled (secondWidth k) b)
+    go true true p q z = clash (cc)
+    go true false p q z = omega (arith, length-append (filled (firstWidth k) a) (filled (secondWidth k) b), code-parts k, filled-long (firstWidth k) a .0, filled-long (secondWidth k) b .1, leb-false (length b) (secondWidth k) q)
+    go false v p q z = omega (arith, length-append (filled (firstWidth k) a) (filled (secondWidth k) b), code-parts k, filled-long (firstWidth k) a .1, filled-long (secondWidth k) b .0, leb-false (length a) (firstWidth k) p)
+
+code-length : (e : Entry) → entryForm e ≡ true → length (codeOf e) ≡ codeWidth (e .kind)
+unfolding codeOf
+code-length e f = length-take-le (codeWidth (e .kind)) (e .body) (omega (arith, form-says e f .2, body-parts (e .kind)))
+
+module _ (s : Text) (q : Sections) (h : Sound s q) (k : ℕ) (a b : Text) (d : ℕ) where
+  none : ((e : Entry) → entryForm e ≡ true → isEntry k (codeText k a b) e ≡ false) → Unknown ≡ standingOf (entries s) k (codeText k a b) d
+  unfolding listed
+  none f = sym (standing-none (entries s) k (codeText k a b) d (none-sound (isEntry k (codeText k a b)) 1 [] (entries s) (book-sound s (h .ok)) (λ e l w. f e w)))
+
+  not-long : fits k a b ≡ false → (e : Entry) → entryForm e ≡ true → isEntry k (codeText k a b) e ≡ false
+  not-long f e w = go (three (e .kind) k)
+    where
+      go : Three (e .kind) k → isEntry k (codeText k a b) e ≡ false
+      go (lt l) = not-kind k (codeText k a b) e (λ z. omega arith)
+      go (eq l) = not-code k (codeText k a b) e (λ z. omega (arith, too-long k a b f, ap length z, code-length e w, ap codeWidth l))
+      go (gt l) = not-kind k (codeText k a b) e (λ z. omega arith)
+
+  -- with the sections of a valid book, a look-up says what the entries say
+  pub standing-is : standingIn s q k a b d ≡ standingOf (entries s) k (codeText k a b) d
+  unfolding standingIn foundIn
+  standing-is = go (leb k 8) (fits k a b) refl refl
+    where
+      go : (u v : Bool) → leb k 8 ≡ u → fits k a b ≡ v
+          → standingAt s d (cond (u && v) (halve (orderAt s k (sectionStart q k) (codeText k a b)) (foundAt k (sectionStart q k)) Absent (countIn s q k) 0 (countIn s q k)) Absent) ≡ standingOf (entries s) k (codeText k a b) d
+      go true true p f = let z = section s q h k (leb-true k 8 p) in finds s q k (z .0) (z .1) (codeText k a b) d
+      go true false p f = none (not-long f)
+      go false v p f = none (λ e w. not-kind k (codeText k a b) e (λ z. omega (arith, form-says e w .1, leb-false k 8 p)))
+
+-- For the crates above
+
+-- what the answer of `valid` says
+module _ (s : Text) (v : Validity) (e : v ≡ validOf s) where
+  pub valid-sound : (q : Sections) → v ≡ Valid q → Sound s q
+  unfolding validOf
+  valid-sound q h = go (bookOk s) refl (sym e ∙ h)
+    where
+      go : (b : Bool) → bookOk s ≡ b → cond b (Valid (sectionsOf s)) Malformed ≡ Valid q → Sound s q
+      go true p z = record { ok = p; sections = cc }
+      go false p z = clash (cc)
+
+  pub valid-bad : v ≡ Malformed → bookOk s ≡ false
+  unfolding validOf
+  valid-bad h = go (bookOk s) refl (sym e ∙ h)
+    where
+      go : (b : Bool) → bookOk s ≡ b → cond b (Valid (sectionsOf s)) Malformed ≡ Malformed → bookOk s ≡ false
+      go true p z = clash (cc)
+      go false p z = p
+
+unknown-says : (u v : Bool) → cond u (cond v InForce OutOfForce) Unknown ≡ Unknown → u ≡ false
+unknown-says true true e = clash (cc)
+unknown-says true false e = clash (cc)
+unknown-says false v e = refl
+
+out-says : (u v : Bool) → cond u (cond v InForce OutOfForce) Unknown ≡ OutOfForce → (u ≡ true) × (v ≡ false)
+out-says true true e = clash (cc)
+out-says true false e = (refl, refl)
+out-says false v e = clash (cc)
+
+in-says : (u v : Bool) → cond u (cond v InForce OutOfForce) Unknown ≡ InForce → (u ≡ true) × (v ≡ true)
+in-says true true e = (refl, refl)
+in-says true false e = clash (cc)
+in-says false v e = clash (cc)
+
+-- what the answer of `look_up` says of the book in use
+module _ (s : Text) (q : Sections) (h : Sound s q) (k : ℕ) (a b : Text) (d : ℕ) (r : Standing) (e : r ≡ standingIn s q k a b d) where
+  pub look-says : r ≡ standingOf (bookOf s) k (codeText k a b) d
+  unfolding bookOf
+  look-says = e ∙ standing-is s q h k a b d
+
+  pub unknown-known : r ≡ Unknown → listed (bookOf s) k (codeText k a b) ≡ false
+  unfolding standingOf
+  unknown-known z = unknown-says (listed (bookOf s) k (codeText k a b)) (listedOn (bookOf s) d k (codeText k a b)) (sym look-says ∙ z)
+
+  module _ (z : r ≡ OutOfForce) where
+    out : (listed (bookOf s) k (codeText k a b) ≡ true) × (listedOn (bookOf s) d k (codeText k a b) ≡ false)
+    unfolding standingOf
+    out = out-says (listed (bookOf s) k (codeText k a b)) (listedOn (bookOf s) d k (codeText k a b)) (sym look-says ∙ z)
+
+    pub out-known : listed (bookOf s) k (codeText k a b) ≡ true
+    out-known = out .0
+
+    pub out-force : listedOn (bookOf s) d k (codeText k a b) ≡ false
+    out-force = out .1
+
+  module _ (z : r ≡ InForce) where
+    ins : (listed (bookOf s) k (codeText k a b) ≡ true) × (listedOn (bookOf s) d k (codeText k a b) ≡ true)
+    unfolding standingOf
+    ins = in-says (listed (bookOf s) k (codeText k a b)) (listedOn (bookOf s) d k (codeText k a b)) (sym look-says ∙ z)
+
+    pub in-known : listed (bookOf s) k (codeText k a b) ≡ true
+    in-known = ins .0
+
+    pub in-force : listedOn (bookOf s) d k (codeText k a b) ≡ true
+    in-force = ins .1

@@ -1,0 +1,19 @@
+-- `book::body_holds` meets its contract.
+-- Assumes nothing.
+use Rattle.book.proofs.ForceLaws.{for-holds}
+use Rattle.book.proofs.body_holds.Statement.{statement}
+use Rattle.book.proofs.body_holds.Tie as tie
+
+pub body-holds-spec : {M : Type 1} → statement M
+body-holds-spec =
+    tie.close
+    (tie.spec
+    (λ c. search for-holds)
+    (λ c. search for-holds)
+    (λ c. search for-holds)
+    (λ c. search for-holds)
+    (λ c. search for-holds)
+    (λ c. search for-holds)
+    (λ c. search for-holds)
+    (λ c. search for-holds)
+    (λ c. search for-holds))

@@ -1,0 +1,17 @@
+-- `book::look_up` meets its contract.
+-- Assumes nothing.
+use Rattle.book.proofs.StandingLaws.{for-look-up}
+use Rattle.book.proofs.look_up.Statement.{statement}
+use Rattle.book.proofs.look_up.Tie as tie
+
+pub look-up-spec : {M : Type 1} → statement M
+look-up-spec =
+    tie.close
+    (tie.spec
+    (λ c. search for-look-up)
+    (λ c. search for-look-up)
+    (λ c. search for-look-up)
+    (λ c. search for-look-up)
+    (λ c. search for-look-up)
+    (λ c. search for-look-up)
+    (λ c. search for-look-up))

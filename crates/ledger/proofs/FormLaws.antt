@@ -1,0 +1,198 @@
+-- What each need of the functions that test a ledger's form asks.
+-- Assumes nothing.
+use mathlib.Core.Path.{_≡_, refl, sym, ap, _∙_}
+use mathlib.Core.Bool.{Bool, true, false, cond, _&&_}
+use mathlib.Core.List.{List, [], _∷_}
+use Prim.Native.Nat.{ℕ, _+_, _*_, _-_, _/_, _%_, _≤_, _<_}
+use native.Mathlib.Numerals.{add-one}
+use native.Mathlib.Omega.{arith}
+use borrow.Author.Needs.{needs}
+use borrow.Author.Tests.{eq-eqb, ne-eqb, le-leb, lt-leb}
+use lib.Dec.{eqb, leb}
+use lib.ListN.{length, take, drop, getD, length-drop, length-take, length-map, drop-of-length-le}
+use lib.Seq.{drop-cons, length-take-le, take-all}
+use Rattle.house.specs.declared.Date.{Date}
+use Rattle.house.specs.declared.Dated.{Dated}
+use Rattle.house.specs.declared.Dated.the-variants.{Day, NoDate}
+use Rattle.house.specs.declared.Order.{Order}
+use Rattle.house.specs.declared.Order.the-variants.{Less, Same, More}
+use Rattle.house.specs.Text.{Text, all, those, adjacent, chained, orderOf, below, run, isDigit, digits, isPadded}
+use Rattle.house.specs.Dates.{isDate, datedOf}
+use Rattle.house.proofs.Suffix.{drop-here, drop-past}
+use Rattle.house.proofs.DateLaws.{dated-true, dated-false}
+use Rattle.ledger.specs.declared.Validity.{Validity}
+use Rattle.ledger.specs.declared.Validity.the-variants.{Sound, Malformed}
+use Rattle.ledger.specs.Ledger.{slotsIn, slots, eventForm, isLiveSlot, isFreeSlot, slotForm, slotFollows, ledgerOk, liveIn, validOf}
+use Rattle.ledger.proofs.SlotLaws.{length-slots, slot-size}
+
+-- is_event
+module _ (e : Text) (n : length e ≡ 37) where
+  nine : length (take 9 e) ≡ 9
+  nine = length-take-le 9 e (omega arith)
+
+  rest : take 20 (drop 17 e) ≡ drop 17 e
+  rest = take-all 20 (drop 17 e) (omega (arith, length-drop 17 e))
+
+  pub event-digits : (g : Bool) → g ≡ digits (take 9 e) → g ≡ false → false ≡ eventForm e
+  unfolding eventForm run digits
+  event-digits g p f = rw (nine, ← p, f)
+
+  module _ (g : Bool) (p : g ≡ digits (take 9 e)) (f : g ≡ true) (r : Dated) (q : r ≡ datedOf (take 8 (drop 9 e))) where
+    pub event-undated : r ≡ NoDate → false ≡ eventForm e
+    unfolding eventForm run digits
+    event-undated z = rw (nine, ← p, f, dated-false (take 8 (drop 9 e)) (sym q ∙ z))
+
+    pub event-dated : (d : Date) (b : Bool) → r ≡ Day d → b ≡ isPadded (take 20 (drop 17 e)) → b ≡ eventForm e
+    unfolding eventForm run digits
+    event-dated d b z w = rw (nine, ← p, f, dated-true (take 8 (drop 9 e)) d (sym q ∙ z)) (w ∙ ap isPadded rest)
+
+pub ruleset for-is-event = (needs, event-digits, event-undated, event-dated)
+
+-- is_live_slot
+pub live-slot : (t : Text) → eqb (getD t 0 0) 1 ≡ isLiveSlot t
+unfolding isLiveSlot
+live-slot t = refl
+
+pub ruleset for-live-slot = (needs, live-slot)
+
+-- is_free_slot
+pub free-start : (t : Text) → isFreeSlot t ≡ isFreeSlot (drop 0 t)
+free-start t = refl
+
+module _ (t : Text) (i : ℕ) (x : Bool) (inv : x ≡ isFreeSlot (drop i t)) where
+  pub free-not : i < length t → (getD t i 0 ≡ 0 → ⊥) → false ≡ x
+  unfolding isFreeSlot
+  free-not h n = rw (inv, drop-here t i h, ne-eqb _ _ n)
+
+  pub free-on : i < length t → getD t i 0 ≡ 0 → x ≡ isFreeSlot (drop (i + 1) t)
+  unfolding isFreeSlot
+  free-on h e = rw (inv, drop-here t i h, eq-eqb _ _ e)
+
+  pub free-end : length t ≤ i → true ≡ x
+  unfolding isFreeSlot
+  free-end h = rw (inv, drop-past t i h)
+
+pub ruleset for-free-slot = (needs, free-start, free-not, free-on, free-end)
+
+-- has_form
+module _ (t : Text) (g : Bool) (p : g ≡ isLiveSlot t) where
+  pub form-size : length t ≡ 38 → length (take 37 (drop 1 t)) ≡ 37
+  form-size n = length-take-le 37 (drop 1 t) (omega (arith, length-drop 1 t))
+
+  pub form-live : (r : Bool) → length t ≡ 38 → g ≡ true → r ≡ eventForm (take 37 (drop 1 t)) → r ≡ slotForm t
+  unfolding slotForm
+  form-live r n f q = rw (← p, f) (q ∙ ap eventForm (take-all 37 (drop 1 t) (omega (arith, length-drop 1 t))))
+
+  pub form-free : (r : Bool) → g ≡ false → r ≡ isFreeSlot t → r ≡ slotForm t
+  unfolding slotForm
+  form-free r f q = rw (← p, f) q
+
+pub ruleset for-has-form = (needs, form-size, form-live, form-free)
+
+-- the slots from i on
+module _ (s : Text) (i : ℕ) where
+  pub slots-here : i < length s / 38 → drop i (slots s) ≡ getD (slots s) i [] ∷ drop (i + 1) (slots s)
+  slots-here h = rw (add-one, drop-cons (slots s) i [] (omega (arith, length-slots s)))
+
+  pub slots-past : length s / 38 ≤ i → drop i (slots s) ≡ []
+  slots-past h = drop-of-length-le (slots s) {i = i} (omega (arith, length-slots s))
+
+-- all_formed
+module _ (s : Text) (i : ℕ) (x : Bool) (inv : x ≡ all slotForm (drop i (slots s))) where
+  module _ (h : i < length s / 38) (t : Text) (e : t ≡ getD (slots s) i []) (r : Bool) (q : r ≡ slotForm t) where
+    pub formed-on : r ≡ true → x ≡ all slotForm (drop (i + 1) (slots s))
+    formed-on f = rw (inv, slots-here s i h, ← e, ← q, f)
+
+    pub formed-not : r ≡ false → false ≡ x
+    formed-not f = rw (inv, slots-here s i h, ← e, ← q, f)
+
+  pub formed-end : length s / 38 ≤ i → true ≡ x
+  formed-end h = rw (inv, slots-past s i h)
+
+pub ruleset for-all-formed = (needs, formed-on, formed-not, formed-end)
+
+-- may_follow
+module _ (s t : Text) (g : Bool) (p : g ≡ isLiveSlot t) where
+  pub follow-free : g ≡ false → true ≡ slotFollows s t
+  unfolding slotFollows
+  follow-free f = rw (← p, f)
+
+  module _ (f : g ≡ true) (k : Bool) (q : k ≡ isLiveSlot s) where
+    pub follow-not : k ≡ false → false ≡ slotFollows s t
+    unfolding slotFollows
+    follow-not e = rw (← p, f, ← q, e)
+
+    pub follow-live : (r : Bool) → k ≡ true → r ≡ below s t → r ≡ slotFollows s t
+    unfolding slotFollows
+    follow-live r e w = rw (← p, f, ← q, e) w
+
+pub ruleset for-may-follow = (needs, follow-free, follow-not, follow-live)
+
+-- in_order
+module _ (s : Text) (i : ℕ) (x : Bool) (inv : x ≡ adjacent slotFollows (drop i (slots s))) where
+  module _ (h : i + 1 < length s / 38) (t u : Text) (e : t ≡ getD (slots s) i []) (f : u ≡ getD (slots s) (i + 1) []) (r : Bool) (q : r ≡ slotFollows t u) where
+    two : drop i (slots s) ≡ t ∷ (u ∷ drop (i + 1 + 1) (slots s))
+    two = slots-here s i (omega arith) ∙ ap (λ (l : List Text). getD (slots s) i [] ∷ l) (slots-here s (i + 1) h) ∙ rw (e, f)
+
+    one : drop (i + 1) (slots s) ≡ u ∷ drop (i + 1 + 1) (slots s)
+    one = slots-here s (i + 1) h ∙ rw f
+
+    pub order-on : r ≡ true → x ≡ adjacent slotFollows (drop (i + 1) (slots s))
+    order-on z = rw (inv, two, one, ← q, z)
+
+    pub order-not : r ≡ false → false ≡ x
+    order-not z = rw (inv, two, ← q, z)
+
+  pub order-end : length s / 38 ≤ i + 1 → true ≡ x
+  order-end h = rw inv (go (drop i (slots s)) (omega (arith, length-drop i (slots s), length-slots s)))
+    where
+      go : (ts : List Text) → length ts ≤ 1 → true ≡ adjacent slotFollows ts
+      go [] k = refl
+      go (t ∷ []) k = refl
+      go (t ∷ (u ∷ ts)) k = absurd (omega arith)
+
+pub ruleset for-in-order = (needs, order-on, order-not, order-end)
+
+-- count_live
+pub count-start : (s : Text) → length (those isLiveSlot (slots s)) ≡ 0 + length (those isLiveSlot (drop 0 (slots s)))
+count-start s = omega arith
+
+module _ (s : Text) (i n x : ℕ) (inv : x ≡ n + length (those isLiveSlot (drop i (slots s)))) where
+  module _ (h : i < length s / 38) (t : Text) (e : t ≡ getD (slots s) i []) (r : Bool) (q : r ≡ isLiveSlot t) where
+    pub count-live : r ≡ true → x ≡ n + 1 + length (those isLiveSlot (drop (i + 1) (slots s)))
+    count-live f = rw (inv, slots-here s i h, ← e, ← q, f) (omega arith)
+
+    pub count-free : r ≡ false → x ≡ n + length (those isLiveSlot (drop (i + 1) (slots s)))
+    count-free f = rw (inv, slots-here s i h, ← e, ← q, f)
+
+  pub count-end : length s / 38 ≤ i → n ≡ x
+  count-end h = rw (inv, slots-past s i h) (omega arith)
+
+pub ruleset for-count-live = (needs, count-start, count-live, count-free, count-end)
+
+-- valid
+module _ (s : Text) where
+  pub valid-odd : (length s % 38 ≡ 0 → ⊥) → Malformed ≡ validOf s
+  unfolding validOf ledgerOk
+  valid-odd n = rw (ne-eqb _ _ n)
+
+  module _ (w : length s % 38 ≡ 0) where
+    pub valid-long : 100000 < length s / 38 → Malformed ≡ validOf s
+    unfolding validOf ledgerOk slotsIn
+    valid-long l = rw (eq-eqb _ _ w, lt-leb _ _ l)
+
+    module _ (l : length s / 38 ≤ 100000) (g : Bool) (p : g ≡ all slotForm (slots s)) where
+      pub valid-unformed : g ≡ false → Malformed ≡ validOf s
+      unfolding validOf ledgerOk slotsIn
+      valid-unformed f = rw (eq-eqb _ _ w, le-leb _ _ l, ← p, f)
+
+      module _ (f : g ≡ true) (k : Bool) (q : k ≡ adjacent slotFollows (slots s)) where
+        pub valid-disordered : k ≡ false → Malformed ≡ validOf s
+        unfolding validOf ledgerOk slotsIn
+        valid-disordered z = rw (eq-eqb _ _ w, le-leb _ _ l, ← p, f, ← q, z)
+
+        pub valid-sound : (n : ℕ) → k ≡ true → n ≡ length (those isLiveSlot (slots s)) → Sound n ≡ validOf s
+        unfolding validOf ledgerOk slotsIn liveIn
+        valid-sound n z c = rw (eq-eqb _ _ w, le-leb _ _ l, ← p, f, ← q, z) (ap Sound (c ∙ sym (length-map (those isLiveSlot (slots s)) (drop 1))))
+
+pub ruleset for-valid = (needs, valid-odd, valid-long, valid-unformed, valid-disordered, valid-sound)
