@@ -82,7 +82,7 @@ module _ (t : Text) (i : ℕ) (x : Bool) (inv : x ≡ digits (drop i t)) where
 
 pub ruleset for-all-digits = (needs, digit-low, digit-high, digit-on, digit-end)
 
--- number_of: what the digits from i on tell
+-- number_of: what the digits from i on tell, of nine at most
 cons-digits : (b : ℕ) (s : Text) → digits (b ∷ s) ≡ true → (48 ≤ b) × (b ≤ 57) × (digits s ≡ true)
 unfolding digits isDigit
 cons-digits b s e = go (leb 48 b) (leb b 57) refl refl e
@@ -105,9 +105,9 @@ module _ (t : Text) (i : ℕ) (h : i < length t) (e : digits (drop i t) ≡ true
   pub num-rest : digits (drop (i + 1) t) ≡ true
   num-rest = at-digit .2
 
-  module _ (v : ℕ) (l : length t ≤ 8) (p : v < 10 ^ i) where
-    small : v < 10000000
-    small = lt-of-lt-of-le p (pow-le-pow-right {n = 10} (omega arith) {i = i} {j = 7} (omega arith))
+  module _ (v w : ℕ) (l : length t ≤ w) (n : w ≤ 9) (p : v < 10 ^ i) where
+    small : v < 100000000
+    small = lt-of-lt-of-le p (pow-le-pow-right {n = 10} (omega arith) {i = i} {j = 8} (omega arith))
 
     pub num-mul : v * 10 < 4294967296
     num-mul = omega (arith, small)

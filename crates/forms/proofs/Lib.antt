@@ -1,0 +1,5 @@
+-- Laws for the crates above
+pub mod FieldLaws
+-- What the functions' own needs ask
+mod TextNeeds
+mod FieldNeeds

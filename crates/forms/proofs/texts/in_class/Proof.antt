@@ -1,0 +1,20 @@
+-- `forms::texts::in_class` meets its contract.
+-- Assumes nothing.
+use Rattle.forms.proofs.TextNeeds.{for-class}
+use Rattle.forms.proofs.texts.in_class.Statement.{statement}
+use Rattle.forms.proofs.texts.in_class.Tie as tie
+
+pub in-class-spec : {M : Type 1} → statement M
+in-class-spec =
+    tie.close
+    (tie.spec
+    (λ c. search for-class)
+    (λ c. search for-class)
+    (λ c. search for-class)
+    (λ c. search for-class)
+    (λ c. search for-class)
+    (λ c. search for-class)
+    (λ c. search for-class)
+    (λ c. search for-class)
+    (λ c. search for-class)
+    (λ c. search for-class))

@@ -1,0 +1,12 @@
+-- `forms::texts::is_batch` meets its contract.
+-- Assumes nothing.
+use Rattle.forms.proofs.TextNeeds.{for-form}
+use Rattle.forms.proofs.texts.is_batch.Statement.{statement}
+use Rattle.forms.proofs.texts.is_batch.Tie as tie
+
+pub is-batch-spec : {M : Type 1} → statement M
+is-batch-spec =
+    tie.close
+    (tie.spec
+    (λ c. search for-form)
+    (λ c. search for-form))

@@ -1,0 +1,12 @@
+-- `forms::texts::is_lot` meets its contract.
+-- Assumes nothing.
+use Rattle.forms.proofs.TextNeeds.{for-form}
+use Rattle.forms.proofs.texts.is_lot.Statement.{statement}
+use Rattle.forms.proofs.texts.is_lot.Tie as tie
+
+pub is-lot-spec : {M : Type 1} → statement M
+is-lot-spec =
+    tie.close
+    (tie.spec
+    (λ c. search for-form)
+    (λ c. search for-form))

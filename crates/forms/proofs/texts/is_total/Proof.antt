@@ -1,0 +1,12 @@
+-- `forms::texts::is_total` meets its contract.
+-- Assumes nothing.
+use Rattle.forms.proofs.TextNeeds.{for-form}
+use Rattle.forms.proofs.texts.is_total.Statement.{statement}
+use Rattle.forms.proofs.texts.is_total.Tie as tie
+
+pub is-total-spec : {M : Type 1} → statement M
+is-total-spec =
+    tie.close
+    (tie.spec
+    (λ c. search for-form)
+    (λ c. search for-form))

@@ -1,0 +1,268 @@
+// The fields of a line: the form that each takes, which are mandatory, and when one is sound.
+use crate::texts::*;
+use lines::IA;
+use lines::IE;
+use lines::IF;
+use lines::IH;
+use lines::II;
+use lines::IN;
+use lines::IP;
+use lines::IV;
+ghost use mathlib.Core.Path.{_≡_};
+ghost use Rattle.house.specs.Text.{within};
+ghost use Rattle.lines.specs.Lines.{fieldsOf};
+ghost use Rattle.lines.specs.Records.{recOf};
+ghost use Rattle.rules.specs.Forms.{formOf, isJudged, relaxedBy, isOptional, isMissing, isMisformed, isSound, isGiven};
+ghost use Rattle.rules.specs.Rules.{lacks};
+ghost use Rattle.forms.specs.Leaves.{refusedBy, basicRule};
+
+// The form of field f of an IH.
+fn form_ih(f: usize, t: &[u8]) -> bool
+    ensures { λ r. ⌜ r ≡ formOf 2 f (now (t .entry)) ⌝ }
+{
+    match f {
+        2 => is_prefix(t),
+        3 => is_batch(t),
+        _ => true,
+    }
+}
+
+// The form of field f of an IP.
+fn form_ip(f: usize, t: &[u8]) -> bool
+    ensures { λ r. ⌜ r ≡ formOf 3 f (now (t .entry)) ⌝ }
+{
+    match f {
+        2 => is_number(t),
+        3 => is_uli(t),
+        25 => is_date(t),
+        _ => true,
+    }
+}
+
+// The form of field f of an II.
+fn form_ii(f: usize, t: &[u8]) -> bool
+    ensures { λ r. ⌜ r ≡ formOf 4 f (now (t .entry)) ⌝ }
+{
+    match f {
+        2 => is_number(t),
+        3 => is_uli(t),
+        4 => is_type(t),
+        5 => is_historical(t),
+        6 => is_date(t),
+        8 => is_code(t),
+        9 => is_site_text(t),
+        10 => is_method_text(t),
+        11 => is_reason(t),
+        12 => is_dosage(t),
+        13 => is_dosage_type(t),
+        14 => is_manufacturer(t),
+        15 => is_lot(t),
+        _ => true,
+    }
+}
+
+// The form of field f of an IE.
+fn form_ie(f: usize, t: &[u8]) -> bool
+    ensures { λ r. ⌜ r ≡ formOf 5 f (now (t .entry)) ⌝ }
+{
+    match f {
+        2 => is_number(t),
+        3 => is_uli(t),
+        4 => is_code(t),
+        5 => is_count(t),
+        _ => true,
+    }
+}
+
+// The form of field f of an IN.
+fn form_in(f: usize, t: &[u8]) -> bool
+    ensures { λ r. ⌜ r ≡ formOf 6 f (now (t .entry)) ⌝ }
+{
+    match f {
+        2 => is_number(t),
+        3 => is_uli(t),
+        4 => is_type(t),
+        5 => is_date(t),
+        6 => is_reason_not(t),
+        7 => is_organization(t),
+        8 => is_grade(t),
+        _ => true,
+    }
+}
+
+// The form of field f of an IA.
+fn form_ia(f: usize, t: &[u8]) -> bool
+    ensures { λ r. ⌜ r ≡ formOf 7 f (now (t .entry)) ⌝ }
+{
+    match f {
+        2 => is_number(t),
+        3 => is_uli(t),
+        4 => is_code(t),
+        _ => true,
+    }
+}
+
+// The form of field f of an IF.
+fn form_if(f: usize, t: &[u8]) -> bool
+    ensures { λ r. ⌜ r ≡ formOf 8 f (now (t .entry)) ⌝ }
+{
+    match f {
+        2 => is_total(t),
+        _ => true,
+    }
+}
+
+// Whether a text is of the form of field f of a record of a kind. Fields not listed, and IV 2, take any text.
+pub fn form_of(kind: u8, f: usize, t: &[u8]) -> bool
+    ensures { λ r. ⌜ r ≡ formOf kind f (now (t .entry)) ⌝ }
+{
+    match kind {
+        IH => form_ih(f, t),
+        IP => form_ip(f, t),
+        II => form_ii(f, t),
+        IE => form_ie(f, t),
+        IN => form_in(f, t),
+        IA => form_ia(f, t),
+        IF => form_if(f, t),
+        _ => true,
+    }
+}
+
+// Whether a number lies from lo to hi.
+fn is_within(lo: usize, hi: usize, f: usize) -> bool
+    ensures { λ r. ⌜ r ≡ within lo hi f ⌝ }
+{
+    if f < lo {
+        return false;
+    }
+    if hi < f { false } else { true }
+}
+
+// Whether field f of a record of a kind is judged at all.
+pub fn is_judged(kind: u8, f: usize) -> bool
+    ensures { λ r. ⌜ r ≡ isJudged kind f ⌝ }
+{
+    match kind {
+        IV => is_within(2, 2, f),
+        IH => is_within(2, 3, f),
+        IP => { if f == 25 { true } else { is_within(2, 3, f) } }
+        II => { if f == 7 { false } else { is_within(2, 15, f) } }
+        IE => is_within(2, 5, f),
+        IN => is_within(2, 8, f),
+        IA => is_within(2, 4, f),
+        IF => is_within(2, 3, f),
+        _ => false,
+    }
+}
+
+// Whether II 18 and 19 relax an event.
+fn is_refused(t: &[u8], why: &[u8]) -> bool
+    ensures { λ r. ⌜ r ≡ refusedBy (now (t .entry)) (now (why .entry)) ⌝ }
+{
+    if t.len() == 0 {
+        if why.len() == 0 {
+            return false;
+        } else {
+            return true;
+        }
+    }
+    if house::same(t, b"AB") { false } else { true }
+}
+
+// Whether an II is a relaxed event, by fields 5, 18, 19 and 20.
+pub fn relaxed(line: &[u8]) -> bool
+    ensures { λ r. ⌜ r ≡ relaxedBy (fieldsOf (now (line .entry))) ⌝ }
+{
+    if house::same(lines::field_of(line, 5), b"H") {
+        return true;
+    }
+    if lines::field_of(line, 20).len() == 0 {
+        is_refused(lines::field_of(line, 18), lines::field_of(line, 19))
+    } else {
+        true
+    }
+}
+
+// Whether field f of a line may be empty, the line read as a record of a kind.
+pub fn is_optional(kind: u8, line: &[u8], f: usize) -> bool
+    ensures { λ r. ⌜ r ≡ isOptional kind (recOf (now (line .entry))) f ⌝ }
+{
+    if kind == IN {
+        return f == 8;
+    }
+    if kind != II {
+        return false;
+    }
+    match f {
+        5 => true,
+        9..=15 => relaxed(line),
+        _ => false,
+    }
+}
+
+// Rule 1: whether field f of a line is mandatory and empty.
+pub fn is_missing(kind: u8, line: &[u8], f: usize) -> bool
+    ensures { λ r. ⌜ r ≡ isMissing kind (recOf (now (line .entry))) f ⌝ }
+{
+    if lines::field_of(line, f).len() != 0 {
+        return false;
+    }
+    if is_judged(kind, f) {
+        if is_optional(kind, line, f) {
+            false
+        } else {
+            true
+        }
+    } else {
+        false
+    }
+}
+
+// Rule 2: whether field f of a line is not of its form.
+pub fn is_misformed(kind: u8, line: &[u8], f: usize) -> bool
+    ensures { λ r. ⌜ r ≡ isMisformed kind (recOf (now (line .entry))) f ⌝ }
+{
+    let t = lines::field_of(line, f);
+    if t.len() == 0 {
+        return false;
+    }
+    if form_of(kind, f, t) { false } else { true }
+}
+
+// Which of rules 1 and 2 is broken at field f of a line, 0 for neither.
+pub fn basic_rule(kind: u8, line: &[u8], f: usize) -> u8
+    ensures { λ r. ⌜ r ≡ basicRule kind (recOf (now (line .entry))) f ⌝ }
+{
+    if is_missing(kind, line, f) {
+        return 1;
+    }
+    if is_misformed(kind, line, f) { 2 } else { 0 }
+}
+
+// Whether field f of a line is sound: rules 1 and 2 find nothing in it.
+pub fn is_sound(kind: u8, line: &[u8], f: usize) -> bool
+    ensures { λ r. ⌜ r ≡ isSound kind (recOf (now (line .entry))) f ⌝ }
+{
+    basic_rule(kind, line, f) == 0
+}
+
+// Whether field f of a line is sound and not empty.
+pub fn is_given(kind: u8, line: &[u8], f: usize) -> bool
+    ensures { λ r. ⌜ r ≡ isGiven kind (recOf (now (line .entry))) f ⌝ }
+{
+    if lines::field_of(line, f).len() == 0 {
+        return false;
+    }
+    is_sound(kind, line, f)
+}
+
+// Rule 10: whether field f of an II is empty and the other given.
+pub fn lacks(line: &[u8], f: usize, other: usize) -> bool
+    ensures { λ r. ⌜ r ≡ lacks (recOf (now (line .entry))) f other ⌝ }
+{
+    if lines::field_of(line, f).len() == 0 {
+        is_given(II, line, other)
+    } else {
+        false
+    }
+}
