@@ -8,16 +8,18 @@ use native.Mathlib.Omega.{arith}
 use borrow.Author.Tests.{ne-eqb, leb-true}
 use lib.Dec.{eqb, leb}
 use lib.ListN.{drop}
-use Rattle.house.specs.Text.{Text, same, isEmpty}
+use Rattle.house.specs.Text.{Text, bytes, same, any, number, isEmpty}
 use Rattle.house.proofs.Small.{clash}
 use Rattle.lines.specs.Records.{Rec, IV, IH, IP, II, IE, IN, IA, IF}
 use Rattle.rules.specs.Forms.{text, formOf, isJudged, isOptional, isMissing, isMisformed, isSound, isGiven}
 use Rattle.rules.specs.Places.{isNumbered}
 use Rattle.rules.specs.Seen.{Setting, Seen}
-use Rattle.rules.specs.Codes.{bookKind, isCodeField, isKnown}
-use Rattle.rules.specs.Rules.{rule1, rule2, rule3, rule4, rule5, rule6, rule7, rule8, rule9, rule10, rule11, rule12, rule13, rule14, rule15, rule16, rule17, rule18, asks, rules, rulesIn, rulesOf, brokenAt}
+use Rattle.rules.specs.Blocks.{adds, changes, deletes}
+use Rattle.rules.specs.Codes.{isSite, isMethod, bookKind, isCodeField, codeIn, isKnown, dayIsSound, isInForce}
+use Rattle.rules.specs.Rules.{rule1, rule2, rule3, rule4, rule5, rule6, rule7, rule8, rule9, rule10, rule11, rule12, rule13, rule14, rule15, rule16, rule17, rule18, asks, afterToday, beforeBirth, sameLot, rules, rulesIn, rulesOf, brokenAt}
 use Rattle.judge.specs.Inside.{some}
-use Rattle.judge.specs.Fields.{lowest, laterAt, codeLater}
+use Rattle.forms.specs.Leaves.{lowest}
+use Rattle.judge.specs.Fields.{laterAt, codeLater}
 
 abbrev pub when : Bool → ℕ → List ℕ
 when p n = cond p (n ∷ []) []
@@ -105,48 +107,66 @@ apart lo k h n3 n4 n5 n6 n7 = go (leb lo k) (leb k 7) refl refl
     go true false p q = refl
     go false b p q = refl
 
+-- a rule that asks for a sound field
+abbrev pub sounds : Rec → ℕ → ℕ → Bool → ℕ → List ℕ
+sounds l k f p n = when (isSound k l f && p) n ++ []
+
+-- rules 4 and 5 of a code that is known or not, out of force or not; rule 4 of a site or a method
+abbrev pub codes : Rec → ℕ → ℕ → Bool → Bool → List ℕ → List ℕ
+codes l k f known out rest = when (isGiven k l f && not (isGiven k l f && known)) 4 ++ (when (isGiven k l f && known && out) 5 ++ rest)
+
+abbrev pub sites : Rec → ℕ → Bool → List ℕ → List ℕ
+sites l f known rest = when (isGiven II l f && not (isGiven II l f && known)) 4 ++ rest
+
+-- rules 16 to 18, by the type
+abbrev pub ledgers : Bool → Bool → Bool → Bool → Bool → List ℕ
+ledgers inb a c d live = when (inb && a && live) 16 ++ (when (inb && c && not live) 17 ++ (when (inb && d && not live) 18 ++ []))
+
 module _ (s : Setting) (v : Seen) where
-  pub iv-2 : v .line .kind ≡ IV → laterAt s v 2 ≡ when (rule3 s v 2) 3 ++ []
+  abbrev L : Rec
+  L = v .line
+
+  pub iv-2 : v .line .kind ≡ IV → laterAt s v 2 ≡ when (isGiven IV L 2 && not (same (text L 2) (bytes "7.2"))) 3 ++ []
   unfolding laterAt rulesOf rulesIn rules rule3 rule4 rule5 rule6 rule7 rule8 rule9 rule10 rule11 rule12 rule13 rule14 rule15 rule16 rule17 rule18 asks isNumbered isCodeField bookKind isKnown
   iv-2 k = rw k
 
-  pub ip-2 : v .line .kind ≡ IP → laterAt s v 2 ≡ when (rule7 s v 2) 7 ++ []
+  pub ip-2 : v .line .kind ≡ IP → laterAt s v 2 ≡ sounds L IP 2 (not (eqb (number (text L 2)) (v .place))) 7
   unfolding laterAt rulesOf rulesIn rules rule3 rule4 rule5 rule6 rule7 rule8 rule9 rule10 rule11 rule12 rule13 rule14 rule15 rule16 rule17 rule18 asks isNumbered isCodeField bookKind isKnown
   ip-2 k = rw k
 
-  pub ip-25 : v .line .kind ≡ IP → laterAt s v 25 ≡ when (rule8 s v 25) 8 ++ []
+  pub ip-25 : v .line .kind ≡ IP → laterAt s v 25 ≡ sounds L IP 25 (afterToday s v 25 || false) 8
   unfolding laterAt rulesOf rulesIn rules rule3 rule4 rule5 rule6 rule7 rule8 rule9 rule10 rule11 rule12 rule13 rule14 rule15 rule16 rule17 rule18 asks isNumbered isCodeField bookKind isKnown
   ip-25 k = rw k
 
-  pub ii-2 : v .line .kind ≡ II → laterAt s v 2 ≡ when (rule7 s v 2) 7 ++ []
+  pub ii-2 : v .line .kind ≡ II → laterAt s v 2 ≡ sounds L II 2 (not (eqb (number (text L 2)) (v .place))) 7
   unfolding laterAt rulesOf rulesIn rules rule3 rule4 rule5 rule6 rule7 rule8 rule9 rule10 rule11 rule12 rule13 rule14 rule15 rule16 rule17 rule18 asks isNumbered isCodeField bookKind isKnown
   ii-2 k = rw k
 
-  pub ii-3 : v .line .kind ≡ II → laterAt s v 3 ≡ when (rule6 s v 3) 6 ++ []
+  pub ii-3 : v .line .kind ≡ II → laterAt s v 3 ≡ sounds L II 3 (isSound IP (v .ip) 3 && not (same (text L 3) (text (v .ip) 3))) 6
   unfolding laterAt rulesOf rulesIn rules rule3 rule4 rule5 rule6 rule7 rule8 rule9 rule10 rule11 rule12 rule13 rule14 rule15 rule16 rule17 rule18 asks isNumbered isCodeField bookKind isKnown
   ii-3 k = rw k
 
-  pub ii-4 : v .line .kind ≡ II → laterAt s v 4 ≡ when (rule16 s v 4) 16 ++ (when (rule17 s v 4) 17 ++ (when (rule18 s v 4) 18 ++ []))
+  pub ii-4 : v .line .kind ≡ II → laterAt s v 4 ≡ ledgers (v .in-block) (same (text L 4) adds) (same (text L 4) changes) (same (text L 4) deletes) (v .live)
   unfolding laterAt rulesOf rulesIn rules rule3 rule4 rule5 rule6 rule7 rule8 rule9 rule10 rule11 rule12 rule13 rule14 rule15 rule16 rule17 rule18 asks isNumbered isCodeField bookKind isKnown
   ii-4 k = rw k
 
-  pub ii-6 : v .line .kind ≡ II → laterAt s v 6 ≡ when (rule8 s v 6) 8 ++ []
+  pub ii-6 : v .line .kind ≡ II → laterAt s v 6 ≡ sounds L II 6 (afterToday s v 6 || beforeBirth v 6) 8
   unfolding laterAt rulesOf rulesIn rules rule3 rule4 rule5 rule6 rule7 rule8 rule9 rule10 rule11 rule12 rule13 rule14 rule15 rule16 rule17 rule18 asks isNumbered isCodeField bookKind isKnown
   ii-6 k = rw k
 
-  pub ii-8 : v .line .kind ≡ II → laterAt s v 8 ≡ when (rule4 s v 8) 4 ++ (when (rule5 s v 8) 5 ++ (when (rule13 s v 8) 13 ++ (when (rule15 s v 8) 15 ++ [])))
+  pub ii-8 : v .line .kind ≡ II → laterAt s v 8 ≡ codes L II 8 (s .known 1 (codeIn II L 8)) (dayIsSound v && not (isInForce s v 1 (codeIn II L 8))) (when (rule13 s v 8) 13 ++ (when (rule15 s v 8) 15 ++ []))
   unfolding laterAt rulesOf rulesIn rules rule3 rule4 rule5 rule6 rule7 rule8 rule9 rule10 rule11 rule12 rule13 rule14 rule15 rule16 rule17 rule18 asks isNumbered isCodeField bookKind isKnown
   ii-8 k = rw k
 
-  pub ii-9 : v .line .kind ≡ II → laterAt s v 9 ≡ when (rule4 s v 9) 4 ++ (when (rule9 s v 9) 9 ++ (when (rule10 s v 9) 10 ++ []))
+  pub ii-9 : v .line .kind ≡ II → laterAt s v 9 ≡ sites L 9 (isSite (text L 9)) (when (rule9 s v 9) 9 ++ (when (rule10 s v 9) 10 ++ []))
   unfolding laterAt rulesOf rulesIn rules rule3 rule4 rule5 rule6 rule7 rule8 rule9 rule10 rule11 rule12 rule13 rule14 rule15 rule16 rule17 rule18 asks isNumbered isCodeField bookKind isKnown
   ii-9 k = rw k
 
-  pub ii-10 : v .line .kind ≡ II → laterAt s v 10 ≡ when (rule4 s v 10) 4 ++ (when (rule9 s v 10) 9 ++ (when (rule10 s v 10) 10 ++ []))
+  pub ii-10 : v .line .kind ≡ II → laterAt s v 10 ≡ sites L 10 (isMethod (text L 10)) (when (rule9 s v 10) 9 ++ (when (rule10 s v 10) 10 ++ []))
   unfolding laterAt rulesOf rulesIn rules rule3 rule4 rule5 rule6 rule7 rule8 rule9 rule10 rule11 rule12 rule13 rule14 rule15 rule16 rule17 rule18 asks isNumbered isCodeField bookKind isKnown
   ii-10 k = rw k
 
-  pub ii-11 : v .line .kind ≡ II → laterAt s v 11 ≡ when (rule4 s v 11) 4 ++ (when (rule5 s v 11) 5 ++ (when (rule11 s v 11) 11 ++ []))
+  pub ii-11 : v .line .kind ≡ II → laterAt s v 11 ≡ codes L II 11 (s .known 3 (codeIn II L 11)) (dayIsSound v && not (isInForce s v 3 (codeIn II L 11))) (when (rule11 s v 11) 11 ++ [])
   unfolding laterAt rulesOf rulesIn rules rule3 rule4 rule5 rule6 rule7 rule8 rule9 rule10 rule11 rule12 rule13 rule14 rule15 rule16 rule17 rule18 asks isNumbered isCodeField bookKind isKnown
   ii-11 k = rw k
 
@@ -154,55 +174,55 @@ module _ (s : Setting) (v : Seen) where
   unfolding laterAt rulesOf rulesIn rules rule3 rule4 rule5 rule6 rule7 rule8 rule9 rule10 rule11 rule12 rule13 rule14 rule15 rule16 rule17 rule18 asks isNumbered isCodeField bookKind isKnown
   ii-12 k = rw k
 
-  pub ii-13 : v .line .kind ≡ II → laterAt s v 13 ≡ when (rule4 s v 13) 4 ++ (when (rule5 s v 13) 5 ++ (when (rule10 s v 13) 10 ++ []))
+  pub ii-13 : v .line .kind ≡ II → laterAt s v 13 ≡ codes L II 13 (s .known 5 (codeIn II L 13)) (dayIsSound v && not (isInForce s v 5 (codeIn II L 13))) (when (rule10 s v 13) 10 ++ [])
   unfolding laterAt rulesOf rulesIn rules rule3 rule4 rule5 rule6 rule7 rule8 rule9 rule10 rule11 rule12 rule13 rule14 rule15 rule16 rule17 rule18 asks isNumbered isCodeField bookKind isKnown
   ii-13 k = rw k
 
-  pub ii-14 : v .line .kind ≡ II → laterAt s v 14 ≡ when (rule4 s v 14) 4 ++ (when (rule5 s v 14) 5 ++ [])
+  pub ii-14 : v .line .kind ≡ II → laterAt s v 14 ≡ codes L II 14 (s .known 4 (codeIn II L 14)) (dayIsSound v && not (isInForce s v 4 (codeIn II L 14))) ([])
   unfolding laterAt rulesOf rulesIn rules rule3 rule4 rule5 rule6 rule7 rule8 rule9 rule10 rule11 rule12 rule13 rule14 rule15 rule16 rule17 rule18 asks isNumbered isCodeField bookKind isKnown
   ii-14 k = rw k
 
-  pub ii-15 : v .line .kind ≡ II → laterAt s v 15 ≡ when (rule14 s v 15) 14 ++ []
+  pub ii-15 : v .line .kind ≡ II → laterAt s v 15 ≡ sounds L II 15 (any (sameLot L) (v .block)) 14
   unfolding laterAt rulesOf rulesIn rules rule3 rule4 rule5 rule6 rule7 rule8 rule9 rule10 rule11 rule12 rule13 rule14 rule15 rule16 rule17 rule18 asks isNumbered isCodeField bookKind isKnown
   ii-15 k = rw k
 
-  pub ie-2 : v .line .kind ≡ IE → laterAt s v 2 ≡ when (rule7 s v 2) 7 ++ []
+  pub ie-2 : v .line .kind ≡ IE → laterAt s v 2 ≡ sounds L IE 2 (not (eqb (number (text L 2)) (v .place))) 7
   unfolding laterAt rulesOf rulesIn rules rule3 rule4 rule5 rule6 rule7 rule8 rule9 rule10 rule11 rule12 rule13 rule14 rule15 rule16 rule17 rule18 asks isNumbered isCodeField bookKind isKnown
   ie-2 k = rw k
 
-  pub ie-3 : v .line .kind ≡ IE → laterAt s v 3 ≡ when (rule6 s v 3) 6 ++ []
+  pub ie-3 : v .line .kind ≡ IE → laterAt s v 3 ≡ sounds L IE 3 (isSound IP (v .ip) 3 && not (same (text L 3) (text (v .ip) 3))) 6
   unfolding laterAt rulesOf rulesIn rules rule3 rule4 rule5 rule6 rule7 rule8 rule9 rule10 rule11 rule12 rule13 rule14 rule15 rule16 rule17 rule18 asks isNumbered isCodeField bookKind isKnown
   ie-3 k = rw k
 
-  pub ie-4 : v .line .kind ≡ IE → laterAt s v 4 ≡ when (rule4 s v 4) 4 ++ (when (rule5 s v 4) 5 ++ (when (rule11 s v 4) 11 ++ (when (rule12 s v 4) 12 ++ [])))
+  pub ie-4 : v .line .kind ≡ IE → laterAt s v 4 ≡ codes L IE 4 (s .known 2 (codeIn IE L 4)) (dayIsSound v && not (isInForce s v 2 (codeIn IE L 4))) (when (rule11 s v 4) 11 ++ (when (rule12 s v 4) 12 ++ []))
   unfolding laterAt rulesOf rulesIn rules rule3 rule4 rule5 rule6 rule7 rule8 rule9 rule10 rule11 rule12 rule13 rule14 rule15 rule16 rule17 rule18 asks isNumbered isCodeField bookKind isKnown
   ie-4 k = rw k
 
-  pub in-2 : v .line .kind ≡ IN → laterAt s v 2 ≡ when (rule7 s v 2) 7 ++ []
+  pub in-2 : v .line .kind ≡ IN → laterAt s v 2 ≡ sounds L IN 2 (not (eqb (number (text L 2)) (v .place))) 7
   unfolding laterAt rulesOf rulesIn rules rule3 rule4 rule5 rule6 rule7 rule8 rule9 rule10 rule11 rule12 rule13 rule14 rule15 rule16 rule17 rule18 asks isNumbered isCodeField bookKind isKnown
   in-2 k = rw k
 
-  pub in-3 : v .line .kind ≡ IN → laterAt s v 3 ≡ when (rule6 s v 3) 6 ++ []
+  pub in-3 : v .line .kind ≡ IN → laterAt s v 3 ≡ sounds L IN 3 (isSound IP (v .ip) 3 && not (same (text L 3) (text (v .ip) 3))) 6
   unfolding laterAt rulesOf rulesIn rules rule3 rule4 rule5 rule6 rule7 rule8 rule9 rule10 rule11 rule12 rule13 rule14 rule15 rule16 rule17 rule18 asks isNumbered isCodeField bookKind isKnown
   in-3 k = rw k
 
-  pub in-5 : v .line .kind ≡ IN → laterAt s v 5 ≡ when (rule8 s v 5) 8 ++ []
+  pub in-5 : v .line .kind ≡ IN → laterAt s v 5 ≡ sounds L IN 5 (afterToday s v 5 || beforeBirth v 5) 8
   unfolding laterAt rulesOf rulesIn rules rule3 rule4 rule5 rule6 rule7 rule8 rule9 rule10 rule11 rule12 rule13 rule14 rule15 rule16 rule17 rule18 asks isNumbered isCodeField bookKind isKnown
   in-5 k = rw k
 
-  pub in-6 : v .line .kind ≡ IN → laterAt s v 6 ≡ when (rule4 s v 6) 4 ++ (when (rule5 s v 6) 5 ++ [])
+  pub in-6 : v .line .kind ≡ IN → laterAt s v 6 ≡ codes L IN 6 (s .known 6 (codeIn IN L 6)) (dayIsSound v && not (isInForce s v 6 (codeIn IN L 6))) ([])
   unfolding laterAt rulesOf rulesIn rules rule3 rule4 rule5 rule6 rule7 rule8 rule9 rule10 rule11 rule12 rule13 rule14 rule15 rule16 rule17 rule18 asks isNumbered isCodeField bookKind isKnown
   in-6 k = rw k
 
-  pub ia-2 : v .line .kind ≡ IA → laterAt s v 2 ≡ when (rule7 s v 2) 7 ++ []
+  pub ia-2 : v .line .kind ≡ IA → laterAt s v 2 ≡ sounds L IA 2 (not (eqb (number (text L 2)) (v .place))) 7
   unfolding laterAt rulesOf rulesIn rules rule3 rule4 rule5 rule6 rule7 rule8 rule9 rule10 rule11 rule12 rule13 rule14 rule15 rule16 rule17 rule18 asks isNumbered isCodeField bookKind isKnown
   ia-2 k = rw k
 
-  pub ia-3 : v .line .kind ≡ IA → laterAt s v 3 ≡ when (rule6 s v 3) 6 ++ []
+  pub ia-3 : v .line .kind ≡ IA → laterAt s v 3 ≡ sounds L IA 3 (isSound IP (v .ip) 3 && not (same (text L 3) (text (v .ip) 3))) 6
   unfolding laterAt rulesOf rulesIn rules rule3 rule4 rule5 rule6 rule7 rule8 rule9 rule10 rule11 rule12 rule13 rule14 rule15 rule16 rule17 rule18 asks isNumbered isCodeField bookKind isKnown
   ia-3 k = rw k
 
-  pub ia-4 : v .line .kind ≡ IA → laterAt s v 4 ≡ when (rule4 s v 4) 4 ++ (when (rule5 s v 4) 5 ++ [])
+  pub ia-4 : v .line .kind ≡ IA → laterAt s v 4 ≡ codes L IA 4 (s .known 2 (codeIn IA L 4)) (dayIsSound v && not (isInForce s v 2 (codeIn IA L 4))) ([])
   unfolding laterAt rulesOf rulesIn rules rule3 rule4 rule5 rule6 rule7 rule8 rule9 rule10 rule11 rule12 rule13 rule14 rule15 rule16 rule17 rule18 asks isNumbered isCodeField bookKind isKnown
   ia-4 k = rw k
 

@@ -3,8 +3,11 @@ pub mod KeepLaws
 -- The walk over the lines
 pub mod WalkLaws
 pub mod StepLaws
+pub mod TurnLaws
 -- The rules at a field
 pub mod Collapse
+pub mod AtLaws
+pub mod LookLaws
 -- What the functions' own needs ask
 mod EmitNeeds
 mod WalkNeeds

@@ -1,3 +1,4 @@
 pub mod Inside
 pub mod Walk
+pub mod Look
 pub mod Fields

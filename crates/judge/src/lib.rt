@@ -1,4 +1,5 @@
 // Judging a file: every broken rule of every field, once, in order; the findings counted, and those that fit written.
+mod codes;
 mod emit;
 mod walk;
 
@@ -37,4 +38,10 @@ pub struct BlockAt {
     pub inb: bool,
     pub joined: bool,
     pub from: usize,
+}
+
+// The day of a record: whether its field is sound, and the number that it writes.
+pub struct Day {
+    pub sound: bool,
+    pub number: u32,
 }

@@ -1,0 +1,73 @@
+// Codes of the book: whether one is known, and the rules 4, 5 and 11.
+use crate::Day;
+use book::Found;
+use book::Sections;
+use book::Standing;
+ghost use mathlib.Core.Path.{_≡_};
+ghost use mathlib.Core.Bool.{false, not, _&&_, _||_};
+ghost use mathlib.Core.List.{[]};
+ghost use Rattle.house.specs.Text.{isEmpty};
+ghost use Rattle.lines.specs.Records.{recOf};
+ghost use Rattle.book.specs.Book.{codeText};
+ghost use Rattle.rules.specs.Forms.{text};
+ghost use Rattle.forms.specs.Leaves.{lowest};
+ghost use Rattle.judge.specs.Look.{knownBy, forceBy};
+ghost use Rattle.judge.specs.Fields.{codeLater};
+
+// Whether the book has a code of a kind.
+fn is_known(book: &[u8], q: Sections, kind: u8, code: &[u8]) -> bool
+    ensures { λ r. ⌜ r ≡ knownBy (now (book .entry)) q kind (codeText kind (now (code .entry)) []) ⌝ }
+{
+    let f = book::find(book, q, kind, code, &code[..0]);
+    match f {
+        Found::At(_) => true,
+        Found::Absent => false,
+    }
+}
+
+// Rule 4 or 5 of a code that is given: not known, or out of force on a day that is sound.
+fn code_later(book: &[u8], q: Sections, kind: u8, code: &[u8], day: Day) -> u8
+    ensures { λ r. ⌜ r ≡ codeLater false (knownBy (now (book .entry)) q kind (codeText kind (now (code .entry)) [])) (day .sound && not (forceBy (now (book .entry)) q (day .number) kind (codeText kind (now (code .entry)) []))) ⌝ }
+{
+    let s = book::look_up(book, q, kind, code, &code[..0], day.number);
+    match s {
+        Standing::Unknown => 4,
+        Standing::InForce => 0,
+        Standing::OutOfForce => { if day.sound { 5 } else { 0 } }
+    }
+}
+
+// Whether a pair of codes is absent, or out of force on a day that is sound.
+fn pair_wrong(book: &[u8], q: Sections, kind: u8, a: &[u8], b: &[u8], day: Day) -> bool
+    ensures { λ r. ⌜ r ≡ not (knownBy (now (book .entry)) q kind (codeText kind (now (a .entry)) (now (b .entry)))) || (day .sound && not (forceBy (now (book .entry)) q (day .number) kind (codeText kind (now (a .entry)) (now (b .entry))))) ⌝ }
+{
+    let s = book::look_up(book, q, kind, a, b, day.number);
+    match s {
+        Standing::Unknown => true,
+        Standing::InForce => false,
+        Standing::OutOfForce => day.sound,
+    }
+}
+
+// The lowest of rules 1, 2, 4 and 5 at field f of a line, which holds a code of a kind of the book.
+pub(crate) fn code_rule(
+    kind: u8,
+    line: &[u8],
+    f: usize,
+    of: u8,
+    code: &[u8],
+    book: &[u8],
+    q: Sections,
+    day: Day,
+) -> u8
+    ensures { λ r. ⌜ r ≡ lowest kind (recOf (now (line .entry))) f (codeLater (isEmpty (text (recOf (now (line .entry))) f)) (knownBy (now (book .entry)) q of (codeText of (now (code .entry)) [])) (day .sound && not (forceBy (now (book .entry)) q (day .number) of (codeText of (now (code .entry)) [])))) ⌝ }
+{
+    let r = forms::basic_rule(kind, line, f);
+    if r != 0 {
+        return r;
+    }
+    if lines::field_of(line, f).len() == 0 {
+        return 0;
+    }
+    code_later(book, q, of, code, day)
+}
