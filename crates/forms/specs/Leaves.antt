@@ -1,12 +1,16 @@
 -- What the functions on texts and lines answer where the rules' own definitions have no name for it.
 -- Assumes nothing.
-use Prim.Native.Nat.{ℕ}
+use Prim.Native.Nat.{ℕ, _+_, _*_, _<_}
+use mathlib.Core.Path.{_≡_}
 use mathlib.Core.Bool.{Bool, not, cond, _&&_, _||_}
-use lib.ListN.{length}
-use lib.Dec.{eqb}
-use Rattle.house.specs.Text.{Text, bytes, front, isEmpty, same, isDigit, isLetter, isLetterOrDigit, isGraphic, run, number}
-use Rattle.lines.specs.Records.{Rec}
-use Rattle.rules.specs.Forms.{lotByte, isMissing, isMisformed}
+use mathlib.Core.List.{List}
+use lib.ListN.{length, getD}
+use lib.Dec.{eqb, ltb}
+use Rattle.house.specs.Text.{Text, bytes, any, those, front, isEmpty, same, isDigit, isLetter, isLetterOrDigit, isGraphic, run, number}
+use Rattle.lines.specs.Records.{Rec, IV, IP, II, IE, isKind}
+use Rattle.house.specs.Dates.{isDate}
+use Rattle.rules.specs.Forms.{text, lotByte, isMissing, isMisformed, isSound}
+use Rattle.rules.specs.Rules.{sameCount, sameLot}
 
 -- The classes of bytes by number: digits, letters, letters or digits, those or dashes, and what shows
 unfoldable pub inClass : ℕ → ℕ → Bool
@@ -31,3 +35,83 @@ lowest k l f later = cond (isMissing k l f) 1 (cond (isMisformed k l f) 2 later)
 
 abbrev pub basicRule : ℕ → Rec → ℕ → ℕ
 basicRule k l f = lowest k l f 0
+
+-- A text of at most three bytes as one number: its length, and its bytes behind it; 0 for a longer one
+unfoldable pub packedOf : Text → ℕ
+packedOf t = cond (ltb 3 (length t)) 0 (length t * 16777216 + getD t 0 0 * 65536 + getD t 1 0 * 256 + getD t 2 0)
+
+-- n is that number, of a text whose elements are bytes
+pub record Packed (t : Text) (n : ℕ) : Type 0 where
+  pub exact : n ≡ packedOf t
+  pub first : getD t 0 0 < 256
+  pub second : getD t 1 0 < 256
+  pub third : getD t 2 0 < 256
+
+-- Later rules at a field that is sound
+
+-- rule 7: a number that is not its place
+unfoldable pub numberLater : ℕ → ℕ → ℕ
+numberLater n place = cond (eqb n place) 0 7
+
+abbrev pub numberRule : ℕ → Rec → ℕ → ℕ
+numberRule k l place = lowest k l 2 (numberLater (valueOf (text l 2)) place)
+
+-- rule 6: a ULI that is not its IP's
+unfoldable pub uliLater : Rec → Rec → ℕ
+uliLater l ip = cond (isSound IP ip 3 && not (same (text l 3) (text ip 3))) 6 0
+
+abbrev pub uliRule : ℕ → Rec → Rec → ℕ
+uliRule k l ip = lowest k l 3 (uliLater l ip)
+
+-- rule 8: a date after today
+unfoldable pub dayLater : Text → ℕ → ℕ
+dayLater t today = cond (isDate t && ltb today (number t)) 8 0
+
+abbrev pub dayRule : Rec → ℕ → ℕ
+dayRule l today = lowest IP l 25 (dayLater (text l 25) today)
+
+-- rule 8: a date after today or before its IP 25
+unfoldable pub bornAfter : ℕ → Rec → Bool
+bornAfter n ip = isSound IP ip 25 && ltb n (number (text ip 25))
+
+unfoldable pub dateLater : Text → ℕ → Rec → ℕ
+dateLater t today ip = cond (isDate t && (ltb today (number t) || bornAfter (number t) ip)) 8 0
+
+abbrev pub dateRule : ℕ → Rec → ℕ → ℕ → Rec → ℕ
+dateRule k l f today ip = lowest k l f (dateLater (text l f) today ip)
+
+-- rule 3: a version that is not 7.2
+unfoldable pub versionLater : Text → ℕ
+versionLater t = cond (same t (bytes "7.2")) 0 3
+
+abbrev pub versionRule : Rec → ℕ
+versionRule l = lowest IV l 2 (versionLater (text l 2))
+
+-- rule 14: a lot that an II among these lines has
+unfoldable pub lotLater : Rec → List Rec → ℕ
+lotLater l ps = cond (any (sameLot l) (those (isKind II) ps)) 14 0
+
+abbrev pub lotRule : Rec → List Rec → ℕ
+lotRule l ps = lowest II l 15 (lotLater l ps)
+
+-- What is asked of each of some lines
+
+-- it gives this antigen
+unfoldable pub antigenIs : Text → Rec → Bool
+antigenIs t p = same t (text p 4)
+
+-- it is an II with this lot
+unfoldable pub lotIs : Text → Rec → Bool
+lotIs t p = isKind II p && (isSound II p 15 && same t (text p 15))
+
+-- one of these gives its antigen as often
+unfoldable pub countIn : List Rec → Rec → Bool
+countIn ps l = any (sameCount l) ps
+
+-- its antigen and its count are sound
+unfoldable pub soundCount : Rec → Bool
+soundCount l = isSound IE l 4 && isSound IE l 5
+
+-- fields 6 and 8 of an II are sound
+unfoldable pub datedCode : Rec → Bool
+datedCode l = isSound II l 6 && isSound II l 8

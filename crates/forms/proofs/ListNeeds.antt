@@ -1,0 +1,158 @@
+-- What each need of the functions over the lines of a part asks.
+-- Assumes nothing.
+use mathlib.Core.Path.{_≡_, refl, sym, ap, _∙_}
+use mathlib.Core.Bool.{Bool, true, false, not, cond, _&&_, _||_}
+use mathlib.Core.List.{List, [], _∷_}
+use Prim.Native.Nat.{ℕ, _-_, _≤_, _<_}
+use native.Mathlib.Omega.{arith}
+use borrow.Author.Needs.{needs}
+use borrow.Author.Tests.{eq-eqb, ne-eqb}
+use lib.Dec.{eqb}
+use lib.ListN.{length, take, drop}
+use Rattle.house.specs.Text.{Text, any, all, those, same, run, number, isDigit}
+use Rattle.house.proofs.Small.{both}
+use Rattle.lines.specs.declared.LineAt.{LineAt}
+use Rattle.lines.specs.Lines.{fieldOf, LineIs}
+use Rattle.lines.specs.Records.{Rec, recordOf, recOf, recs, isKind, II}
+use Rattle.lines.proofs.LineLaws.{left-falls}
+use Rattle.lines.proofs.PartLaws.{recs-past, recs-on}
+use Rattle.rules.specs.Forms.{text, countForm, isCount, isSound}
+use Rattle.rules.specs.Rules.{sameAntigen, doseOf, sameCount, allIn, countsSound, setsDiffer, sameLot}
+use Rattle.forms.specs.Leaves.{valueOf, antigenIs, lotIs, countIn, soundCount}
+use Rattle.forms.proofs.TextNeeds.{value-run}
+use Rattle.forms.proofs.FieldLaws.{text-is, kind-is}
+
+-- Loops over lines that ask the same of each
+module _ (p : Rec → Bool) (s : Text) (at : ℕ) (x : Bool) where
+  module _ (inv : x ≡ any p (recs (drop at s))) where
+    pub any-past : length s ≤ at → false ≡ x
+    any-past h = rw (inv, recs-past s at h)
+
+    module _ (h : at < length s) (q : LineAt) (e : LineIs s at q) (y : Bool) (g : y ≡ p (recOf (take (q .end - at) (drop at s)))) where
+      pub any-here : y ≡ true → true ≡ x
+      any-here k = rw (inv, recs-on s at q e h, ← g, k)
+
+      pub any-next : y ≡ false → x ≡ any p (recs (drop (q .next) s))
+      any-next k = rw (inv, recs-on s at q e h, ← g, k)
+
+  module _ (inv : x ≡ all p (recs (drop at s))) where
+    pub all-past : length s ≤ at → true ≡ x
+    all-past h = rw (inv, recs-past s at h)
+
+    module _ (h : at < length s) (q : LineAt) (e : LineIs s at q) (y : Bool) (g : y ≡ p (recOf (take (q .end - at) (drop at s)))) where
+      pub all-here : y ≡ false → false ≡ x
+      all-here k = rw (inv, recs-on s at q e h, ← g, k)
+
+      pub all-next : y ≡ true → x ≡ all p (recs (drop (q .next) s))
+      all-next k = rw (inv, recs-on s at q e h, ← g, k)
+
+pub counts-start : (ls : List Rec) → countsSound ls ≡ all soundCount ls
+unfolding countsSound soundCount
+counts-start ls = refl
+
+pub count-start : (ls : List Rec) (l : Rec) → countIn ls l ≡ any (sameCount l) ls
+unfolding countIn
+count-start ls l = refl
+
+pub ruleset for-any-line = (needs, count-start, any-past, any-here, any-next, left-falls)
+
+pub ruleset for-all-lines = (needs, counts-start, all-past, all-here, all-next, left-falls)
+
+-- has_antigen, any_antigen
+pub antigen-here : (l t u : Text) (x : Bool) → u ≡ fieldOf l 4 → x ≡ same t u → x ≡ antigenIs t (recOf l)
+unfolding antigenIs
+antigen-here l t u x d e = rw (text-is l 4, ← d) e
+
+antigens-are : (l : Rec) (ls : List Rec) → any (antigenIs (text l 4)) ls ≡ any (sameAntigen l) ls
+unfolding antigenIs sameAntigen
+antigens-are l ls = refl
+
+pub antigen-any : (l t : Text) (ls : List Rec) (x : Bool) → t ≡ fieldOf l 4 → x ≡ any (antigenIs t) ls → x ≡ any (sameAntigen (recOf l)) ls
+antigen-any l t ls x d e = rw (← antigens-are (recOf l) ls, text-is l 4, ← d) e
+
+pub ruleset for-antigen = (needs, antigen-here, antigen-any)
+
+-- has_lot, any_lot
+module _ (l t : Text) (k : ℕ) (d : k ≡ recordOf l) where
+  pub lot-kind : (k ≡ 4 → ⊥) → false ≡ lotIs t (recOf l)
+  unfolding lotIs
+  lot-kind n = rw (kind-is, ← d, ne-eqb k 4 n)
+
+  module _ (z : k ≡ 4) (x : Bool) (e : x ≡ isSound 4 (recOf l) 15) where
+    pub lot-unsound : x ≡ false → false ≡ lotIs t (recOf l)
+    unfolding lotIs
+    lot-unsound h = rw (kind-is, ← d, eq-eqb k 4 z, ← e, h)
+
+    pub lot-here : (u : Text) (y : Bool) → x ≡ true → u ≡ fieldOf l 15 → y ≡ same t u → y ≡ lotIs t (recOf l)
+    unfolding lotIs
+    lot-here u y h f g = rw (kind-is, ← d, eq-eqb k 4 z, ← e, h, text-is l 15, ← f) g
+
+any-those : (l : Rec) (ps : List Rec) → any (lotIs (text l 15)) ps ≡ any (sameLot l) (those (isKind II) ps)
+unfolding lotIs sameLot
+any-those l [] = refl
+any-those l (p ∷ ps) = go (isKind II p) (any-those l ps)
+  where
+    go : (b : Bool) → any (lotIs (text l 15)) ps ≡ any (sameLot l) (those (isKind II) ps)
+        → (b && sameLot l p) || any (lotIs (text l 15)) ps ≡ any (sameLot l) (cond b (p ∷ those (isKind II) ps) (those (isKind II) ps))
+    go true r = rw r
+    go false r = r
+
+pub lot-any : (l t : Text) (ls : List Rec) (x : Bool) → t ≡ fieldOf l 15 → x ≡ any (lotIs t) ls → x ≡ any (sameLot (recOf l)) (those (isKind 4) ls)
+lot-any l t ls x d e = rw (← any-those (recOf l) ls, text-is l 15, ← d) e
+
+pub ruleset for-lot = (needs, lot-kind, lot-unsound, lot-here, lot-any)
+
+-- dose_of, same_count
+count-value : (t : Text) → isCount t ≡ true → valueOf t ≡ number t
+unfolding isCount countForm
+count-value t h = value-run t 1 2 (omega arith) (omega arith) (both (run 1 2 isDigit t) _ h .0)
+
+module _ (l t : Text) (d : t ≡ fieldOf l 5) (x : Bool) (e : x ≡ isCount t) where
+  pub dose-none : x ≡ false → 0 ≡ doseOf (recOf l)
+  unfolding doseOf
+  dose-none h = rw (text-is l 5, ← d, ← e, h)
+
+  pub dose-is : (n : ℕ) → x ≡ true → n ≡ valueOf t → n ≡ doseOf (recOf l)
+  unfolding doseOf
+  dose-is n h k = rw (text-is l 5, ← d, ← e, h) (k ∙ count-value t (sym e ∙ h))
+
+pub ruleset for-dose = (needs, dose-none, dose-is)
+
+module _ (a b t u : Text) (d : t ≡ fieldOf a 4) (f : u ≡ fieldOf b 4) (x : Bool) (e : x ≡ same t u) where
+  pub count-other : x ≡ false → false ≡ sameCount (recOf a) (recOf b)
+  unfolding sameCount sameAntigen
+  count-other h = rw (text-is a 4, text-is b 4, ← d, ← f, ← e, h)
+
+  pub count-same : (m n : ℕ) → x ≡ true → m ≡ doseOf (recOf a) → n ≡ doseOf (recOf b) → eqb m n ≡ sameCount (recOf a) (recOf b)
+  unfolding sameCount sameAntigen
+  count-same m n h p q = rw (text-is a 4, text-is b 4, ← d, ← f, ← e, h, p, q)
+
+pub ruleset for-same-count = (needs, count-other, count-same)
+
+-- sets_differ, count_sound
+module _ (a b : List Rec) (x : Bool) (e : x ≡ all (countIn b) a) where
+  pub differ-first : x ≡ false → true ≡ setsDiffer a b
+  unfolding setsDiffer allIn countIn
+  differ-first h = rw (← e, h)
+
+  module _ (h : x ≡ true) (y : Bool) (f : y ≡ all (countIn a) b) where
+    pub differ-second : y ≡ false → true ≡ setsDiffer a b
+    unfolding setsDiffer allIn countIn
+    differ-second k = rw (← e, h, ← f, k)
+
+    pub differ-not : y ≡ true → false ≡ setsDiffer a b
+    unfolding setsDiffer allIn countIn
+    differ-not k = rw (← e, h, ← f, k)
+
+pub ruleset for-sets-differ = (needs, differ-first, differ-second, differ-not)
+
+module _ (l : Rec) (x : Bool) (e : x ≡ isSound 5 l 4) where
+  pub sound-not : x ≡ false → false ≡ soundCount l
+  unfolding soundCount
+  sound-not h = rw (← e, h)
+
+  pub sound-both : (y : Bool) → x ≡ true → y ≡ isSound 5 l 5 → y ≡ soundCount l
+  unfolding soundCount
+  sound-both y h f = rw (← e, h) f
+
+pub ruleset for-count-sound = (needs, sound-not, sound-both)

@@ -1,0 +1,177 @@
+-- What each need of the verdicts asks.
+-- Assumes nothing.
+use mathlib.Core.Path.{_≡_, refl, sym, ap, _∙_}
+use mathlib.Core.Bool.{Bool, true, false, not, cond, _&&_, _||_}
+use mathlib.Core.List.{List, [], _∷_}
+use Prim.Native.Nat.{ℕ, _≤_, _<_}
+use native.Mathlib.Omega.{arith}
+use borrow.Author.Needs.{needs}
+use borrow.Author.Tests.{eq-eqb, ne-eqb, lt-ltb, le-ltb}
+use lib.Dec.{eqb, ltb}
+use lib.ListN.{length}
+use Rattle.house.specs.declared.Date.{Date}
+use Rattle.house.specs.declared.Dated.{Dated}
+use Rattle.house.specs.declared.Dated.the-variants.{Day, NoDate}
+use Rattle.house.specs.Text.{Text, any, those, same, number}
+use Rattle.house.specs.Dates.{isDate, datedOf}
+use Rattle.house.proofs.Small.{clash}
+use Rattle.house.proofs.DateLaws.{dated-true, dated-false}
+use Rattle.lines.specs.Lines.{fieldOf}
+use Rattle.lines.specs.Records.{Rec, recOf, isKind}
+use Rattle.rules.specs.Forms.{text, isMissing, isMisformed, isSound}
+use Rattle.rules.specs.Rules.{sameLot}
+use Rattle.forms.specs.Leaves.{lowest, valueOf, numberLater, uliLater, dayLater, bornAfter, dateLater, versionLater, lotLater}
+use Rattle.forms.proofs.FieldLaws.{text-is, ip-25}
+
+-- the lowest rule: 1 or 2, or a later one where neither is broken
+module _ (k : ℕ) (l : Rec) (f later r : ℕ) (e : r ≡ lowest k l f 0) where
+  pub rule-broken : (r ≡ 0 → ⊥) → r ≡ lowest k l f later
+  unfolding lowest
+  rule-broken n = go (isMissing k l f) (isMisformed k l f) e
+    where
+      go : (a b : Bool) → r ≡ cond a 1 (cond b 2 0) → r ≡ cond a 1 (cond b 2 later)
+      go true b h = h
+      go false true h = h
+      go false false h = absurd (n h)
+
+  pub rule-later : (q : ℕ) → r ≡ 0 → q ≡ later → q ≡ lowest k l f later
+  unfolding lowest
+  rule-later q z h = go (isMissing k l f) (isMisformed k l f) (sym e ∙ z)
+    where
+      go : (a b : Bool) → _≡_ {A = ℕ} (cond a 1 (cond b 2 0)) 0 → q ≡ cond a 1 (cond b 2 later)
+      go true b g = absurd (omega arith)
+      go false true g = absurd (omega arith)
+      go false false g = h
+
+-- number_later, number_rule
+module _ (n place : ℕ) where
+  pub number-right : n ≡ place → 0 ≡ numberLater n place
+  unfolding numberLater
+  number-right e = rw (eq-eqb n place e)
+
+  pub number-wrong : (n ≡ place → ⊥) → 7 ≡ numberLater n place
+  unfolding numberLater
+  number-wrong e = rw (ne-eqb n place e)
+
+pub number-by : (l t : Text) (n place q : ℕ) → t ≡ fieldOf l 2 → n ≡ valueOf t → q ≡ numberLater n place → q ≡ numberLater (valueOf (text (recOf l) 2)) place
+number-by l t n place q d e h = rw (text-is l 2, ← d, ← e) h
+
+pub ruleset for-number-later = (needs, number-right, number-wrong)
+
+pub ruleset for-number-rule = (needs, rule-broken, rule-later, number-by)
+
+-- uli_later, uli_rule
+module _ (l p : Text) (x : Bool) (e : x ≡ isSound 3 (recOf p) 3) where
+  pub uli-unsound : x ≡ false → 0 ≡ uliLater (recOf l) (recOf p)
+  unfolding uliLater
+  uli-unsound h = rw (← e, h)
+
+  module _ (h : x ≡ true) (t u : Text) (d : t ≡ fieldOf l 3) (f : u ≡ fieldOf p 3) (y : Bool) (g : y ≡ same t u) where
+    pub uli-same : y ≡ true → 0 ≡ uliLater (recOf l) (recOf p)
+    unfolding uliLater
+    uli-same k = rw (← e, h, text-is l 3, text-is p 3, ← d, ← f, ← g, k)
+
+    pub uli-other : y ≡ false → 6 ≡ uliLater (recOf l) (recOf p)
+    unfolding uliLater
+    uli-other k = rw (← e, h, text-is l 3, text-is p 3, ← d, ← f, ← g, k)
+
+pub ruleset for-uli-later = (needs, uli-unsound, uli-same, uli-other)
+
+pub ruleset for-rule = (needs, rule-broken, rule-later)
+
+-- day_later, day_rule
+module _ (t : Text) (d : Dated) (e : d ≡ datedOf t) where
+  module _ (x : Date) (h : d ≡ Day x) where
+    day-is : number t ≡ x .number
+    unfolding datedOf
+    day-is = go (isDate t) (sym e ∙ h)
+      where
+        go : (b : Bool) → cond b (Day (record { number = number t })) NoDate ≡ Day x → number t ≡ x .number
+        go true k = cc
+        go false k = clash (cc)
+
+    is-dated : isDate t ≡ true
+    is-dated = dated-true t x (sym e ∙ h)
+
+    module _ (today : ℕ) where
+      pub day-after : today < x .number → 8 ≡ dayLater t today
+      unfolding dayLater
+      day-after k = rw (is-dated, day-is, lt-ltb today (x .number) k)
+
+      pub day-right : x .number ≤ today → 0 ≡ dayLater t today
+      unfolding dayLater
+      day-right k = rw (is-dated, day-is, le-ltb today (x .number) k)
+
+      module _ (p : Rec) where
+        pub date-after : today < x .number → 8 ≡ dateLater t today p
+        unfolding dateLater
+        date-after k = rw (is-dated, day-is, lt-ltb today (x .number) k)
+
+        module _ (k : x .number ≤ today) (y : Bool) (g : y ≡ bornAfter (x .number) p) where
+          pub date-before : y ≡ true → 8 ≡ dateLater t today p
+          unfolding dateLater
+          date-before m = rw (is-dated, day-is, le-ltb today (x .number) k, ← g, m)
+
+          pub date-right : y ≡ false → 0 ≡ dateLater t today p
+          unfolding dateLater
+          date-right m = rw (is-dated, day-is, le-ltb today (x .number) k, ← g, m)
+
+  module _ (h : d ≡ NoDate) (today : ℕ) where
+    pub day-none : 0 ≡ dayLater t today
+    unfolding dayLater
+    day-none = rw (dated-false t (sym e ∙ h))
+
+    pub date-none : (p : Rec) → 0 ≡ dateLater t today p
+    unfolding dateLater
+    date-none p = rw (dated-false t (sym e ∙ h))
+
+module _ (p t : Text) (f : t ≡ fieldOf p 25) (d : Dated) (e : d ≡ datedOf t) (n : ℕ) where
+  pub born-day : (x : Date) → d ≡ Day x → ltb n (x .number) ≡ bornAfter n (recOf p)
+  unfolding bornAfter
+  born-day x h = rw (ip-25 (recOf p), text-is p 25, ← f, is-dated t d e x h, day-is t d e x h)
+
+  pub born-none : d ≡ NoDate → false ≡ bornAfter n (recOf p)
+  unfolding bornAfter
+  born-none h = rw (ip-25 (recOf p), text-is p 25, ← f, dated-false t (sym e ∙ h))
+
+pub ruleset for-day-later = (needs, day-after, day-right, day-none)
+
+pub ruleset for-date-later = (needs, date-after, date-before, date-right, date-none)
+
+pub ruleset for-born = (needs, born-day, born-none)
+
+module _ (l t : Text) (f today q : ℕ) (d : t ≡ fieldOf l f) where
+  pub day-by : q ≡ dayLater t today → q ≡ dayLater (text (recOf l) f) today
+  day-by h = rw (text-is l f, ← d) h
+
+  pub date-by : (p : Rec) → q ≡ dateLater t today p → q ≡ dateLater (text (recOf l) f) today p
+  date-by p h = rw (text-is l f, ← d) h
+
+  pub version-by : q ≡ versionLater t → q ≡ versionLater (text (recOf l) f)
+  version-by h = rw (text-is l f, ← d) h
+
+pub ruleset for-field-rule = (needs, rule-broken, rule-later, day-by, date-by, version-by)
+
+-- version_later
+module _ (t : Text) (x : Bool) (e : x ≡ same t (55 ∷ 46 ∷ 50 ∷ [])) where
+  pub version-right : x ≡ true → 0 ≡ versionLater t
+  unfolding versionLater
+  version-right h = rw (← e, h)
+
+  pub version-wrong : x ≡ false → 3 ≡ versionLater t
+  unfolding versionLater
+  version-wrong h = rw (← e, h)
+
+pub ruleset for-version-later = (needs, version-right, version-wrong)
+
+-- lot_later
+module _ (l : Rec) (ps : List Rec) (x : Bool) (e : x ≡ any (sameLot l) (those (isKind 4) ps)) where
+  pub lot-twice : x ≡ true → 14 ≡ lotLater l ps
+  unfolding lotLater
+  lot-twice h = rw (← e, h)
+
+  pub lot-once : x ≡ false → 0 ≡ lotLater l ps
+  unfolding lotLater
+  lot-once h = rw (← e, h)
+
+pub ruleset for-lot-later = (needs, lot-twice, lot-once)

@@ -1,0 +1,22 @@
+-- `forms::codes::packed` meets its contract.
+-- Assumes nothing.
+use Rattle.forms.proofs.CodeNeeds.{for-packed}
+use Rattle.forms.proofs.codes.packed.Statement.{statement}
+use Rattle.forms.proofs.codes.packed.Tie as tie
+
+pub packed-spec : {M : Type 1} → statement M
+packed-spec =
+    tie.close
+    (tie.spec
+    (λ c. search for-packed)
+    (λ c. search for-packed)
+    (λ c. search for-packed)
+    (λ c. search for-packed)
+    (λ c. search for-packed)
+    (λ c. search for-packed)
+    (λ c. search for-packed)
+    (λ c. search for-packed)
+    (λ c. search for-packed)
+    (λ c. search for-packed)
+    (λ c. search for-packed)
+    (λ c. search for-packed))

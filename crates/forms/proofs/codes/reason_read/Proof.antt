@@ -1,0 +1,19 @@
+-- `forms::codes::reason_read` meets its contract.
+-- Assumes nothing.
+use Rattle.forms.proofs.CodeNeeds.{for-reason-read}
+use Rattle.forms.proofs.codes.reason_read.Statement.{statement}
+use Rattle.forms.proofs.codes.reason_read.Tie as tie
+
+pub reason-read-spec : {M : Type 1} → statement M
+reason-read-spec =
+    tie.close
+    (tie.spec
+    (λ c. search for-reason-read)
+    (λ c. search for-reason-read)
+    (λ c. search for-reason-read)
+    (λ c. search for-reason-read)
+    (λ c. search for-reason-read)
+    (λ c. search for-reason-read)
+    (λ c. search for-reason-read)
+    (λ c. search for-reason-read)
+    (λ c. search for-reason-read))

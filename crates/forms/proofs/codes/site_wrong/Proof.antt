@@ -1,0 +1,18 @@
+-- `forms::codes::site_wrong` meets its contract.
+-- Assumes nothing.
+use Rattle.forms.proofs.CodeNeeds.{for-wrong}
+use Rattle.forms.proofs.codes.site_wrong.Statement.{statement}
+use Rattle.forms.proofs.codes.site_wrong.Tie as tie
+
+pub site-wrong-spec : {M : Type 1} → statement M
+site-wrong-spec =
+    tie.close
+    (tie.spec
+    (λ c. search for-wrong)
+    (λ c. search for-wrong)
+    (λ c. search for-wrong)
+    (λ c. search for-wrong)
+    (λ c. search for-wrong)
+    (λ c. search for-wrong)
+    (λ c. search for-wrong)
+    (λ c. search for-wrong))

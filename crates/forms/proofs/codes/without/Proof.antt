@@ -1,0 +1,15 @@
+-- `forms::codes::without` meets its contract.
+-- Assumes nothing.
+use Rattle.forms.proofs.CodeNeeds.{for-without}
+use Rattle.forms.proofs.codes.without.Statement.{statement}
+use Rattle.forms.proofs.codes.without.Tie as tie
+
+pub without-spec : {M : Type 1} → statement M
+without-spec =
+    tie.close
+    (tie.spec
+    (λ c. search for-without)
+    (λ c. search for-without)
+    (λ c. search for-without)
+    (λ c. search for-without)
+    (λ c. search for-without))

@@ -1,0 +1,34 @@
+-- `forms::lists::antigen_among` meets its contract.
+-- Assumes nothing.
+use Rattle.forms.proofs.ListNeeds.{for-any-line}
+use mathlib.Core.Path.{_≡_}
+use Prim.Native.Nat.{_-_, _≤_}
+use lib.ListN.{length, drop}
+use Rattle.lines.specs.Records.{recOf, recs}
+use Rattle.house.specs.Text.{any, all}
+use Rattle.forms.specs.Leaves.{antigenIs}
+use Rattle.forms.proofs.lists.antigen_among.Statement.{statement}
+use Rattle.forms.proofs.lists.antigen_among.Tie as tie
+
+abbrev Inv-loop : tie.InvT-loop
+Inv-loop since t at₀ at = (at ≤ length since) × (any (antigenIs t) (recs since) ≡ any (antigenIs t) (recs (drop at since)))
+
+abbrev μ-loop : tie.MeasureT-loop
+μ-loop since t at₀ at = length since - at
+
+pub antigen-among-spec : {M : Type 1} → statement M
+antigen-among-spec =
+    tie.close
+    (tie.spec
+    Inv-loop
+    μ-loop
+    (λ c. search for-any-line)
+    (λ c. search for-any-line)
+    (λ c. search for-any-line)
+    (λ c. search for-any-line)
+    (λ c. search for-any-line)
+    (λ c. search for-any-line)
+    (λ c. search for-any-line)
+    (λ c. search for-any-line)
+    (λ c. search for-any-line)
+    (λ c. search for-any-line))

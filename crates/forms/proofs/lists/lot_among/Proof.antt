@@ -1,0 +1,34 @@
+-- `forms::lists::lot_among` meets its contract.
+-- Assumes nothing.
+use Rattle.forms.proofs.ListNeeds.{for-any-line}
+use mathlib.Core.Path.{_≡_}
+use Prim.Native.Nat.{_-_, _≤_}
+use lib.ListN.{length, drop}
+use Rattle.lines.specs.Records.{recOf, recs}
+use Rattle.house.specs.Text.{any, all}
+use Rattle.forms.specs.Leaves.{lotIs}
+use Rattle.forms.proofs.lists.lot_among.Statement.{statement}
+use Rattle.forms.proofs.lists.lot_among.Tie as tie
+
+abbrev Inv-loop : tie.InvT-loop
+Inv-loop block t at₀ at = (at ≤ length block) × (any (lotIs t) (recs block) ≡ any (lotIs t) (recs (drop at block)))
+
+abbrev μ-loop : tie.MeasureT-loop
+μ-loop block t at₀ at = length block - at
+
+pub lot-among-spec : {M : Type 1} → statement M
+lot-among-spec =
+    tie.close
+    (tie.spec
+    Inv-loop
+    μ-loop
+    (λ c. search for-any-line)
+    (λ c. search for-any-line)
+    (λ c. search for-any-line)
+    (λ c. search for-any-line)
+    (λ c. search for-any-line)
+    (λ c. search for-any-line)
+    (λ c. search for-any-line)
+    (λ c. search for-any-line)
+    (λ c. search for-any-line)
+    (λ c. search for-any-line))

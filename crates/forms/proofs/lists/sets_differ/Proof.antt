@@ -1,0 +1,15 @@
+-- `forms::lists::sets_differ` meets its contract.
+-- Assumes nothing.
+use Rattle.forms.proofs.ListNeeds.{for-sets-differ}
+use Rattle.forms.proofs.lists.sets_differ.Statement.{statement}
+use Rattle.forms.proofs.lists.sets_differ.Tie as tie
+
+pub sets-differ-spec : {M : Type 1} → statement M
+sets-differ-spec =
+    tie.close
+    (tie.spec
+    (λ c. search for-sets-differ)
+    (λ c. search for-sets-differ)
+    (λ c. search for-sets-differ)
+    (λ c. search for-sets-differ)
+    (λ c. search for-sets-differ))

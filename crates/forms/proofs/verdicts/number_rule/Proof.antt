@@ -1,0 +1,16 @@
+-- `forms::verdicts::number_rule` meets its contract.
+-- Assumes nothing.
+use Rattle.forms.proofs.VerdictNeeds.{for-number-rule}
+use Rattle.forms.proofs.verdicts.number_rule.Statement.{statement}
+use Rattle.forms.proofs.verdicts.number_rule.Tie as tie
+
+pub number-rule-spec : {M : Type 1} → statement M
+number-rule-spec =
+    tie.close
+    (tie.spec
+    (λ c. search for-number-rule)
+    (λ c. search for-number-rule)
+    (λ c. search for-number-rule)
+    (λ c. search for-number-rule)
+    (λ c. search for-number-rule)
+    (λ c. search for-number-rule))

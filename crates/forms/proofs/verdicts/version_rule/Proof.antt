@@ -1,0 +1,15 @@
+-- `forms::verdicts::version_rule` meets its contract.
+-- Assumes nothing.
+use Rattle.forms.proofs.VerdictNeeds.{for-field-rule}
+use Rattle.forms.proofs.verdicts.version_rule.Statement.{statement}
+use Rattle.forms.proofs.verdicts.version_rule.Tie as tie
+
+pub version-rule-spec : {M : Type 1} → statement M
+version-rule-spec =
+    tie.close
+    (tie.spec
+    (λ c. search for-field-rule)
+    (λ c. search for-field-rule)
+    (λ c. search for-field-rule)
+    (λ c. search for-field-rule)
+    (λ c. search for-field-rule))

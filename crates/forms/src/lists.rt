@@ -1,0 +1,169 @@
+// What is asked of the lines of a part of the file: antigens, counts and lots given before.
+use crate::fields::is_sound;
+use crate::texts::is_count;
+use crate::texts::value;
+use lines::IE;
+use lines::II;
+ghost use mathlib.Core.Path.{_≡_};
+ghost use Rattle.house.specs.Text.{any, all, those};
+ghost use Rattle.lines.specs.Records.{recOf, recs, isKind};
+ghost use Rattle.rules.specs.Rules.{sameAntigen, doseOf, sameCount, countsSound, setsDiffer, sameLot};
+ghost use Rattle.forms.specs.Leaves.{antigenIs, lotIs, countIn, soundCount};
+
+// Whether a line gives this antigen.
+fn has_antigen(line: &[u8], t: &[u8]) -> bool
+    ensures { λ r. ⌜ r ≡ antigenIs (now (t .entry)) (recOf (now (line .entry))) ⌝ }
+{
+    house::same(t, lines::field_of(line, 4))
+}
+
+// Whether one of these lines gives this antigen.
+fn antigen_among(since: &[u8], t: &[u8]) -> bool
+    ensures { λ r. ⌜ r ≡ any (antigenIs (now (t .entry))) (recs (now (since .entry))) ⌝ }
+{
+    let mut at = 0;
+    while at < since.len() {
+        let l = lines::line_at(since, at);
+        let end = l.end;
+        if has_antigen(&since[at..end], t) {
+            return true;
+        }
+        at = l.next;
+    }
+    false
+}
+
+// Rule 12: whether one of these lines gives the line's antigen.
+pub fn any_antigen(line: &[u8], since: &[u8]) -> bool
+    ensures { λ r. ⌜ r ≡ any (sameAntigen (recOf (now (line .entry)))) (recs (now (since .entry))) ⌝ }
+{
+    antigen_among(since, lines::field_of(line, 4))
+}
+
+// Whether a line is an II with this lot.
+fn has_lot(line: &[u8], t: &[u8]) -> bool
+    ensures { λ r. ⌜ r ≡ lotIs (now (t .entry)) (recOf (now (line .entry))) ⌝ }
+{
+    if lines::kind_of(line) != II {
+        return false;
+    }
+    if is_sound(II, line, 15) {
+        house::same(t, lines::field_of(line, 15))
+    } else {
+        false
+    }
+}
+
+// Whether an II among these lines has this lot.
+fn lot_among(block: &[u8], t: &[u8]) -> bool
+    ensures { λ r. ⌜ r ≡ any (lotIs (now (t .entry))) (recs (now (block .entry))) ⌝ }
+{
+    let mut at = 0;
+    while at < block.len() {
+        let l = lines::line_at(block, at);
+        let end = l.end;
+        if has_lot(&block[at..end], t) {
+            return true;
+        }
+        at = l.next;
+    }
+    false
+}
+
+// Rule 14: whether an II among the block's lines has the line's lot.
+pub fn any_lot(line: &[u8], block: &[u8]) -> bool
+    ensures { λ r. ⌜ r ≡ any (sameLot (recOf (now (line .entry)))) (those (isKind 4) (recs (now (block .entry)))) ⌝ }
+{
+    lot_among(block, lines::field_of(line, 15))
+}
+
+// The count of an IE as a number, 0 where it is not sound.
+pub fn dose_of(line: &[u8]) -> u32
+    ensures { λ r. ⌜ r ≡ doseOf (recOf (now (line .entry))) ⌝ }
+{
+    let t = lines::field_of(line, 5);
+    if is_count(t) { value(t) } else { 0 }
+}
+
+// Whether two lines give one antigen equally often.
+pub fn same_count(a: &[u8], b: &[u8]) -> bool
+    ensures { λ r. ⌜ r ≡ sameCount (recOf (now (a .entry))) (recOf (now (b .entry))) ⌝ }
+{
+    if house::same(lines::field_of(a, 4), lines::field_of(b, 4)) {
+        dose_of(a) == dose_of(b)
+    } else {
+        false
+    }
+}
+
+// Whether one of these lines gives the line's antigen as often.
+fn count_among(line: &[u8], others: &[u8]) -> bool
+    ensures { λ r. ⌜ r ≡ countIn (recs (now (others .entry))) (recOf (now (line .entry))) ⌝ }
+{
+    let mut at = 0;
+    while at < others.len() {
+        let l = lines::line_at(others, at);
+        let end = l.end;
+        if same_count(line, &others[at..end]) {
+            return true;
+        }
+        at = l.next;
+    }
+    false
+}
+
+// Whether each line's antigen is given as often among the others.
+fn all_counted(ps: &[u8], others: &[u8]) -> bool
+    ensures { λ r. ⌜ r ≡ all (countIn (recs (now (others .entry)))) (recs (now (ps .entry))) ⌝ }
+{
+    let mut at = 0;
+    while at < ps.len() {
+        let l = lines::line_at(ps, at);
+        let end = l.end;
+        if count_among(&ps[at..end], others) {
+            at = l.next;
+        } else {
+            return false;
+        }
+    }
+    true
+}
+
+// Rule 13: whether the antigens with counts of these lines are not one set.
+pub fn sets_differ(own: &[u8], first: &[u8]) -> bool
+    ensures { λ r. ⌜ r ≡ setsDiffer (recs (now (own .entry))) (recs (now (first .entry))) ⌝ }
+{
+    if all_counted(own, first) {
+        if all_counted(first, own) { false } else { true }
+    } else {
+        true
+    }
+}
+
+// Whether an IE's antigen and count are sound.
+fn count_sound(line: &[u8]) -> bool
+    ensures { λ r. ⌜ r ≡ soundCount (recOf (now (line .entry))) ⌝ }
+{
+    if is_sound(IE, line, 4) {
+        is_sound(IE, line, 5)
+    } else {
+        false
+    }
+}
+
+// Rule 13: whether the antigens and counts of all these lines are sound.
+pub fn counts_sound(ps: &[u8]) -> bool
+    ensures { λ r. ⌜ r ≡ countsSound (recs (now (ps .entry))) ⌝ }
+{
+    let mut at = 0;
+    while at < ps.len() {
+        let l = lines::line_at(ps, at);
+        let end = l.end;
+        if count_sound(&ps[at..end]) {
+            at = l.next;
+        } else {
+            return false;
+        }
+    }
+    true
+}
