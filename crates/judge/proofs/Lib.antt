@@ -7,7 +7,10 @@ pub mod TurnLaws
 -- The rules at a field
 pub mod Collapse
 pub mod AtLaws
+pub mod RuleLaws
 pub mod LookLaws
 -- What the functions' own needs ask
 mod EmitNeeds
 mod WalkNeeds
+mod FieldNeeds
+mod LaterNeeds

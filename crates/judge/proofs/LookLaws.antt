@@ -176,3 +176,39 @@ module _ (k : ℕ) (line : Text) (f r : ℕ) (e : r ≡ lowest k (recOf line) f 
   code-given x z y = rw (text-is line f, ← p, empty-false t z, ← y) (low-sound k (recOf line) f r x e h)
 
 pub ruleset for-code-rule = (needs, low-broken, code-empty, code-given)
+
+-- is_known_at
+module _ (a b x : Bool) (e : x ≡ a) where
+  pub given-no : x ≡ false → false ≡ a && b
+  given-no h = rw (← e, h)
+
+  pub given-both : (y : Bool) → x ≡ true → y ≡ b → y ≡ a && b
+  given-both y h f = rw (← e, h) f
+
+pub ruleset for-given = (needs, given-no, given-both)
+
+-- pair_rule, the vaccine being field 8 of the head
+module _ (s : Text) (q : Sections) (head t code : Text) (p : t ≡ fieldOf head 8) where
+  pub vaccine-known : (x u : Bool) → x ≡ u && knownBy s q 1 (codeText 1 t []) → x ≡ u && knownBy s q 1 (codeText 1 (text (recOf head) 8) [])
+  vaccine-known x u e = rw (text-is head 8, ← p) e
+
+  pub pair-read : (x dated : Bool) (k d : ℕ) → x ≡ not (knownBy s q k (codeText k t code)) || (dated && not (forceBy s q d k (codeText k t code)))
+      → x ≡ not (knownBy s q k (codeText k (text (recOf head) 8) code)) || (dated && not (forceBy s q d k (codeText k (text (recOf head) 8) code)))
+  pair-read x dated k d e = rw (text-is head 8, ← p) e
+
+module _ (n : ℕ) (a b c x : Bool) (e : x ≡ a) where
+  pub pair-a : x ≡ false → 0 ≡ cond (a && b && c) n 0
+  pair-a h = rw (← e, h)
+
+  module _ (h : x ≡ true) (y : Bool) (f : y ≡ b) where
+    pub pair-b : y ≡ false → 0 ≡ cond (a && b && c) n 0
+    pair-b k = rw (← e, h, ← f, k)
+
+    module _ (k : y ≡ true) (z : Bool) (g : z ≡ c) where
+      pub pair-c : z ≡ false → 0 ≡ cond (a && b && c) n 0
+      pair-c m = rw (← e, h, ← f, k, ← g, m)
+
+      pub pair-all : z ≡ true → n ≡ cond (a && b && c) n 0
+      pair-all m = rw (← e, h, ← f, k, ← g, m)
+
+pub ruleset for-pair-rule = (needs, vaccine-known, pair-read, pair-a, pair-b, pair-c, pair-all)

@@ -16,10 +16,11 @@ use Rattle.lines.specs.Records.{Rec, IE, IN, IA, isKind, recordOf, recOf, recs}
 use Rattle.lines.specs.Inside.{part, whole}
 use Rattle.lines.proofs.LineLaws.{left-falls}
 use Rattle.lines.proofs.PartLaws.{recs-past, recs-on, ended-inside, whole-step}
+use Rattle.rules.specs.Blocks.{isInBlock, joins}
 use Rattle.judge.specs.declared.Span.{Span}
 use Rattle.judge.specs.declared.State.{State}
 use Rattle.judge.specs.declared.BlockAt.{BlockAt}
-use Rattle.judge.specs.Walk.{span, OwnIs, headAt, nextPlace, nextOf, nextSince, nextLast, nextRun, nextMany, nextFirst, nextIns, advanced}
+use Rattle.judge.specs.Walk.{partOf, span, blockAt, OwnIs, headAt, nextPlace, nextOf, nextSince, nextLast, nextRun, nextMany, nextFirst, nextIns, advanced}
 use Rattle.judge.proofs.WalkLaws.{no-recs, kind-is, recs-next}
 
 -- next_place
@@ -185,3 +186,20 @@ pub own-whole : (file : Text) (at : ℕ) (q : LineAt) → LineIs file at q → a
 own-whole file at q e h w m = whole-step file at q e h (ended-inside file at q e h m) (w h)
 
 pub ruleset for-ie-end = (needs, own-end, own-stop, own-on, own-start, own-whole, left-falls)
+
+-- block_of
+module _ (file : Text) (at : ℕ) (st : State) (line : Text) (x : Bool) (e : x ≡ isInBlock (recOf line)) where
+  pub block-out : x ≡ false → record { inb = false; joined = false; from = at } ≡ blockAt file at st line
+  unfolding blockAt
+  block-out h = rw (← e, h)
+
+  module _ (h : x ≡ true) (y : Bool) (f : y ≡ joins (recOf line) (recOf (partOf file (st .last)))) where
+    pub block-join : y ≡ true → record { inb = true; joined = true; from = st .run } ≡ blockAt file at st line
+    unfolding blockAt
+    block-join k = rw (← e, h, ← f, k)
+
+    pub block-new : y ≡ false → record { inb = true; joined = false; from = at } ≡ blockAt file at st line
+    unfolding blockAt
+    block-new k = rw (← e, h, ← f, k)
+
+pub ruleset for-block-of = (needs, block-out, block-join, block-new)

@@ -1,6 +1,8 @@
 // Judging a file: every broken rule of every field, once, in order; the findings counted, and those that fit written.
 mod codes;
 mod emit;
+mod fields;
+mod later;
 mod walk;
 
 // Up to three rules that are broken at a field, 0 for none.

@@ -7,7 +7,7 @@ ghost use Prim.Native.Nat.{_+_, _^_, _≤_, _<_};
 ghost use mathlib.Core.Bool.{true};
 ghost use lib.ListN.{length, take};
 ghost use Rattle.lines.specs.Inside.{whole};
-ghost use Rattle.judge.specs.Walk.{OwnIs, headAt, nextPlace, nextOf, nextSince, nextLast, nextRun, nextMany, nextFirst, nextIns, advanced};
+ghost use Rattle.judge.specs.Walk.{Holds, BlockIs, OwnIs, headAt, nextPlace, nextOf, nextSince, nextLast, nextRun, nextMany, nextFirst, nextIns, advanced};
 
 // The place of the next line, if it is numbered.
 fn next_place(place: usize, k: u8) -> usize
@@ -149,4 +149,35 @@ pub(crate) fn ie_end(file: &[u8], from: usize) -> usize
         at = l.next;
     }
     at
+}
+
+// Whether a line that starts at a position is in a block, whether it joins the open one, and where its block starts.
+pub(crate) fn block_of(file: &[u8], at: usize, st: State, line: &[u8]) -> BlockAt
+    requires { ⌜ Holds (now file) at st ⌝ }
+    requires { ⌜ at ≤ length (now file) ⌝ }
+    ensures { λ r. ⌜ BlockIs (now (file .entry)) at st (now (line .entry)) r ⌝ }
+{
+    let run = st.run;
+    if forms::in_block(line) {
+        let last = st.last;
+        let start = last.start;
+        let end = last.end;
+        if forms::joins(line, &file[start..end]) {
+            return BlockAt {
+                inb: true,
+                joined: true,
+                from: run,
+            };
+        }
+        return BlockAt {
+            inb: true,
+            joined: false,
+            from: at,
+        };
+    }
+    BlockAt {
+        inb: false,
+        joined: false,
+        from: at,
+    }
 }

@@ -1,3 +1,5 @@
+-- `judge::codes::code_later` meets its contract.
+-- Assumes nothing.
 use Rattle.judge.proofs.LookLaws.{for-code-later}
 use Rattle.judge.proofs.codes.code_later.Statement.{statement}
 use Rattle.judge.proofs.codes.code_later.Tie as tie

@@ -1,3 +1,5 @@
+-- `judge::codes::code_rule` meets its contract.
+-- Assumes nothing.
 use Rattle.judge.proofs.LookLaws.{for-code-rule}
 use Rattle.judge.proofs.codes.code_rule.Statement.{statement}
 use Rattle.judge.proofs.codes.code_rule.Tie as tie

@@ -1,3 +1,5 @@
+-- `judge::codes::is_known` meets its contract.
+-- Assumes nothing.
 use Rattle.judge.proofs.LookLaws.{for-known}
 use Rattle.judge.proofs.codes.is_known.Statement.{statement}
 use Rattle.judge.proofs.codes.is_known.Tie as tie

@@ -1,3 +1,5 @@
+-- `judge::codes::pair_wrong` meets its contract.
+-- Assumes nothing.
 use Rattle.judge.proofs.LookLaws.{for-pair}
 use Rattle.judge.proofs.codes.pair_wrong.Statement.{statement}
 use Rattle.judge.proofs.codes.pair_wrong.Tie as tie

@@ -1,3 +1,5 @@
+-- `judge::emit::emit` meets its contract.
+-- Assumes nothing.
 use Rattle.judge.proofs.EmitNeeds.{for-emit}
 use Rattle.judge.proofs.emit.emit.Statement.{statement}
 use Rattle.judge.proofs.emit.emit.Tie as tie

@@ -1,3 +1,5 @@
+-- `judge::emit::emit_one` meets its contract.
+-- Assumes nothing.
 use Rattle.judge.proofs.EmitNeeds.{for-emit-one}
 use Rattle.judge.proofs.emit.emit_one.Statement.{statement}
 use Rattle.judge.proofs.emit.emit_one.Tie as tie

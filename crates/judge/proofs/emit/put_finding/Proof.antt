@@ -1,3 +1,5 @@
+-- `judge::emit::put_finding` meets its contract.
+-- Assumes nothing.
 use Rattle.judge.proofs.EmitNeeds.{for-put}
 use Rattle.judge.proofs.emit.put_finding.Statement.{statement}
 use Rattle.judge.proofs.emit.put_finding.Tie as tie

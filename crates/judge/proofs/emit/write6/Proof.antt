@@ -1,3 +1,5 @@
+-- `judge::emit::write6` meets its contract.
+-- Assumes nothing.
 use Rattle.judge.proofs.EmitNeeds.{for-write6}
 use Rattle.judge.proofs.emit.write6.Statement.{statement}
 use Rattle.judge.proofs.emit.write6.Tie as tie

@@ -1,3 +1,5 @@
+-- `judge::walk::advance` meets its contract.
+-- Assumes nothing.
 use Rattle.judge.proofs.WalkNeeds.{for-advance}
 use Rattle.judge.proofs.walk.advance.Statement.{statement}
 use Rattle.judge.proofs.walk.advance.Tie as tie

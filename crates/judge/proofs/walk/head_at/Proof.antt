@@ -1,3 +1,5 @@
+-- `judge::walk::head_at` meets its contract.
+-- Assumes nothing.
 use Rattle.judge.proofs.WalkNeeds.{for-next}
 use Rattle.judge.proofs.walk.head_at.Statement.{statement}
 use Rattle.judge.proofs.walk.head_at.Tie as tie

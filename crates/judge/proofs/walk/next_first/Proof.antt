@@ -1,3 +1,5 @@
+-- `judge::walk::next_first` meets its contract.
+-- Assumes nothing.
 use Rattle.judge.proofs.WalkNeeds.{for-next}
 use Rattle.judge.proofs.walk.next_first.Statement.{statement}
 use Rattle.judge.proofs.walk.next_first.Tie as tie

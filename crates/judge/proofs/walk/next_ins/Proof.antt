@@ -1,3 +1,5 @@
+-- `judge::walk::next_ins` meets its contract.
+-- Assumes nothing.
 use Rattle.judge.proofs.WalkNeeds.{for-next}
 use Rattle.judge.proofs.walk.next_ins.Statement.{statement}
 use Rattle.judge.proofs.walk.next_ins.Tie as tie

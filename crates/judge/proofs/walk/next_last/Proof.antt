@@ -1,3 +1,5 @@
+-- `judge::walk::next_last` meets its contract.
+-- Assumes nothing.
 use Rattle.judge.proofs.WalkNeeds.{for-next}
 use Rattle.judge.proofs.walk.next_last.Statement.{statement}
 use Rattle.judge.proofs.walk.next_last.Tie as tie

@@ -1,3 +1,5 @@
+-- `judge::walk::next_many` meets its contract.
+-- Assumes nothing.
 use Rattle.judge.proofs.WalkNeeds.{for-next}
 use Rattle.judge.proofs.walk.next_many.Statement.{statement}
 use Rattle.judge.proofs.walk.next_many.Tie as tie

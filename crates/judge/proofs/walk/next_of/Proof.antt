@@ -1,3 +1,5 @@
+-- `judge::walk::next_of` meets its contract.
+-- Assumes nothing.
 use Rattle.judge.proofs.WalkNeeds.{for-next}
 use Rattle.judge.proofs.walk.next_of.Statement.{statement}
 use Rattle.judge.proofs.walk.next_of.Tie as tie

@@ -1,3 +1,5 @@
+-- `judge::walk::next_place` meets its contract.
+-- Assumes nothing.
 use Rattle.judge.proofs.WalkNeeds.{for-next}
 use Rattle.judge.proofs.walk.next_place.Statement.{statement}
 use Rattle.judge.proofs.walk.next_place.Tie as tie

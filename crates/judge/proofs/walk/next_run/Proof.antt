@@ -1,3 +1,5 @@
+-- `judge::walk::next_run` meets its contract.
+-- Assumes nothing.
 use Rattle.judge.proofs.WalkNeeds.{for-next}
 use Rattle.judge.proofs.walk.next_run.Statement.{statement}
 use Rattle.judge.proofs.walk.next_run.Tie as tie

@@ -1,3 +1,5 @@
+-- `judge::walk::next_since` meets its contract.
+-- Assumes nothing.
 use Rattle.judge.proofs.WalkNeeds.{for-next}
 use Rattle.judge.proofs.walk.next_since.Statement.{statement}
 use Rattle.judge.proofs.walk.next_since.Tie as tie
