@@ -33,7 +33,7 @@ use Rattle.judge.proofs.AtLaws.{plain-at, sound-at, code-at, version-at
 -- SOUND FIELDS
 
 -- a later rule's number counts only at a sound field
-low-same : (k : ℕ) (l : Rec) (f m n : ℕ) → (isSound k l f ≡ true → m ≡ n) → lowest k l f m ≡ lowest k l f n
+pub low-same : (k : ℕ) (l : Rec) (f m n : ℕ) → (isSound k l f ≡ true → m ≡ n) → lowest k l f m ≡ lowest k l f n
 unfolding lowest isSound
 low-same k l f m n h = go (isMissing k l f) (isMisformed k l f) h
   where
@@ -43,7 +43,7 @@ low-same k l f m n h = go (isMissing k l f) (isMisformed k l f) h
     go false false h = h refl
 
 -- a mandatory field that is sound is of its form
-mandatory : (k : ℕ) (l : Rec) (f : ℕ) (form : Bool) → isJudged k f ≡ true → isOptional k l f ≡ false → formOf k f (text l f) ≡ form → isSound k l f ≡ true → form ≡ true
+pub mandatory : (k : ℕ) (l : Rec) (f : ℕ) (form : Bool) → isJudged k f ≡ true → isOptional k l f ≡ false → formOf k f (text l f) ≡ form → isSound k l f ≡ true → form ≡ true
 unfolding isSound isMissing isMisformed
 mandatory k l f form j o e = rw (j, o, e) (go (isEmpty (text l f)) form)
   where
@@ -83,16 +83,16 @@ answer : (b : Broken) (x y : ℕ) (ls : List ℕ) → b ≡ broken x 0 0 → x �
 answer b x y ls p q r = rw (p, q, r)
 
 module _ (b : Broken) (x : ℕ) (p : b ≡ broken x 0 0) (line : Text) (s : Setting) (v : Seen) (lv : v .line ≡ recOf line) where
-  kind-at : (k : ℕ) → recordOf line ≡ k → v .line .kind ≡ k
+  pub kind-at : (k : ℕ) → recordOf line ≡ k → v .line .kind ≡ k
   unfolding recOf
   kind-at k e = ap (λ (l : Rec). l .kind) lv ∙ e
 
-  plain : (k f : ℕ) → recordOf line ≡ k → x ≡ lowest k (recOf line) f 0 → laterAt s v f ≡ [] → listed b ≡ brokenAt s v f
+  pub plain : (k f : ℕ) → recordOf line ≡ k → x ≡ lowest k (recOf line) f 0 → laterAt s v f ≡ [] → listed b ≡ brokenAt s v f
   plain k f e q h = answer b x _ _ p (q ∙ ap (λ (l : Rec). lowest k l f 0) (sym lv)) (plain-at s v k f (kind-at k e) h)
 
   -- field 2
   module _ (k place : ℕ) (e : recordOf line ≡ k) (pv : v .place ≡ place) (q : x ≡ numberRule k (recOf line) place) where
-    number-at : (isSound k (v .line) 2 ≡ true → isNumber (text (v .line) 2) ≡ true) → laterAt s v 2 ≡ sounds (v .line) k 2 (not (eqb (number (text (v .line) 2)) (v .place))) 7
+    pub number-at : (isSound k (v .line) 2 ≡ true → isNumber (text (v .line) 2) ≡ true) → laterAt s v 2 ≡ sounds (v .line) k 2 (not (eqb (number (text (v .line) 2)) (v .place))) 7
         → listed b ≡ brokenAt s v 2
     number-at h m =
         answer b x _ _ p
@@ -118,10 +118,10 @@ pub ruleset for-judge-iv = (needs, need-iv-2, need-iv-rest)
 -- CODES, BY LOOK-UP
 
 module _ (s : Setting) (v : Seen) (today : ℕ) (book : Text) (q : Sections) (day : Day) (ls : Looks today book q s) (d : DayIs day v) (of : ℕ) (c y : Text) (ce : c ≡ y) where
-  known-same : knownBy book q of y ≡ s .known of c
+  pub known-same : knownBy book q of y ≡ s .known of c
   known-same = sym (ap (s .known of) ce ∙ ap (λ (g : ℕ → Text → Bool). g of y) (ls .known-is))
 
-  force-same : (day .sound && not (forceBy book q (day .number) of y)) ≡ (dayIsSound v && not (isInForce s v of c))
+  pub force-same : (day .sound && not (forceBy book q (day .number) of y)) ≡ (dayIsSound v && not (isInForce s v of c))
   unfolding isInForce
   force-same = go (day .sound) refl ∙ ap (λ (b : Bool). b && not (s .in-force (recordDay v) of c)) (sym (d .sound-is))
     where
@@ -140,7 +140,7 @@ module _ (x : ℕ) (line : Text) (s : Setting) (v : Seen) (lv : v .line ≡ recO
   read-same : codeIn k (v .line) f ≡ codeText of t []
   read-same = ce ∙ ap (λ (u : Text). codeText of u []) (ap (λ (l : Rec). text l f) lv ∙ text-is line f ∙ sym pt)
 
-  code-is : x ≡ lowest k (recOf line) f (codeLater (isEmpty (text (recOf line) f)) (knownBy book q of (codeText of t [])) (day .sound && not (forceBy book q (day .number) of (codeText of t []))))
+  pub code-is : x ≡ lowest k (recOf line) f (codeLater (isEmpty (text (recOf line) f)) (knownBy book q of (codeText of t [])) (day .sound && not (forceBy book q (day .number) of (codeText of t []))))
       → x ≡ lowest k (v .line) f (codeLater (isEmpty (text (v .line) f)) (s .known of (codeIn k (v .line) f)) (dayIsSound v && not (isInForce s v of (codeIn k (v .line) f))))
   code-is z =
       z
@@ -194,7 +194,7 @@ pub ruleset for-judge-ip = (needs, need-ip-2, need-ip-25, need-ip-rest)
 
 -- fields 3, and 6 or 5, of a line below an IP
 module _ (b : Broken) (x : ℕ) (p : b ≡ broken x 0 0) (line ip : Text) (s : Setting) (v : Seen) (lv : v .line ≡ recOf line) (iv : v .ip ≡ recOf ip) (k : ℕ) (e : recordOf line ≡ k) where
-  uli-at : x ≡ uliRule k (recOf line) (recOf ip) → laterAt s v 3 ≡ sounds (v .line) k 3 (isSound IP (v .ip) 3 && not (same (text (v .line) 3) (text (v .ip) 3))) 6
+  pub uli-at : x ≡ uliRule k (recOf line) (recOf ip) → laterAt s v 3 ≡ sounds (v .line) k 3 (isSound IP (v .ip) 3 && not (same (text (v .line) 3) (text (v .ip) 3))) 6
       → listed b ≡ brokenAt s v 3
   unfolding uliLater
   uli-at z h =

@@ -1,3 +1,5 @@
+-- The laws of the crate, for its own proofs and for the crates above.
+-- Assumes nothing.
 -- What is kept of a list of findings
 pub mod KeepLaws
 -- The walk over the lines
@@ -14,3 +16,4 @@ mod EmitNeeds
 mod WalkNeeds
 mod FieldNeeds
 mod LaterNeeds
+mod HeadNeeds

@@ -2,17 +2,21 @@
 use crate::Broken;
 use crate::Day;
 use crate::codes::code_rule;
+use crate::codes::pair_rule;
+use crate::later::again_rule;
 use book::Sections;
 use lines::IA;
+use lines::IE;
 use lines::IN;
 use lines::IP;
 use lines::IV;
 ghost use mathlib.Core.Path.{_≡_};
-ghost use Rattle.lines.specs.Records.{recordOf, recOf};
+ghost use mathlib.Core.List.{reverse};
+ghost use Rattle.lines.specs.Records.{recordOf, recOf, recs};
 ghost use Rattle.rules.specs.Seen.{Setting, Seen};
 ghost use Rattle.rules.specs.Rules.{brokenAt};
 ghost use Rattle.judge.specs.Inside.{listed};
-ghost use Rattle.judge.specs.Fields.{Shows, DayIs, Looks};
+ghost use Rattle.judge.specs.Fields.{Shows, DayIs, Looks, antigenAt};
 
 // One rule, or none.
 fn one(a: u8) -> Broken
@@ -86,5 +90,40 @@ pub(crate) fn judge_ia(
         3 => one(forms::uli_rule(IA, line, ip)),
         4 => one(code_rule(IA, line, 4, 2, lines::field_of(line, 4), book, q, day)),
         _ => one(forms::basic_rule(IA, line, f)),
+    }
+}
+
+// IE 4: rules 1, 2, 4, 5, 11 and 12.
+fn antigen_at(line: &[u8], head: &[u8], since: &[u8], book: &[u8], q: Sections, day: Day) -> Broken
+    ensures { λ r. ⌜ r ≡ antigenAt (now (line .entry)) (now (head .entry)) (now (since .entry)) (now (book .entry)) q day ⌝ }
+{
+    let t = lines::field_of(line, 4);
+    let a = code_rule(IE, line, 4, 2, t, book, q, day);
+    let b = pair_rule(IE, line, 4, 2, t, 8, head, book, q, day);
+    let c = again_rule(line, since);
+    Broken { a, b, c }
+}
+
+// Field f of an IE.
+pub(crate) fn judge_ie(
+    line: &[u8],
+    ip: &[u8],
+    head: &[u8],
+    since: &[u8],
+    book: &[u8],
+    q: Sections,
+    place: usize,
+    day: Day,
+    today: u32,
+    f: usize,
+) -> Broken
+    requires { ⌜ recordOf (now line) ≡ 5 ⌝ }
+    ensures { λ r. ⌜ ((s : Setting) (v : Seen) → Looks today (now (book .entry)) q s → Shows place (now (line .entry)) (now (ip .entry)) v → DayIs day v → v .head ≡ recOf (now (head .entry)) → v .antigens ≡ reverse (recs (now (since .entry))) → listed r ≡ brokenAt s v f) ⌝ }
+{
+    match f {
+        2 => one(forms::number_rule(IE, line, place)),
+        3 => one(forms::uli_rule(IE, line, ip)),
+        4 => antigen_at(line, head, since, book, q, day),
+        _ => one(forms::basic_rule(IE, line, f)),
     }
 }
