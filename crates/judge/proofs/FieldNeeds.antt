@@ -1,0 +1,274 @@
+-- What each need of the functions on fields asks: the rules that are broken at a field of a kind.
+-- Assumes nothing.
+use mathlib.Core.Path.{_≡_, refl, sym, ap, _∙_}
+use mathlib.Core.Bool.{Bool, true, false, not, cond, _&&_, _||_}
+use mathlib.Core.List.{List, [], _∷_}
+use Prim.Native.Nat.{ℕ, _≤_}
+use native.Mathlib.Omega.{arith}
+use borrow.Author.Needs.{needs}
+use borrow.Author.Tests.{le-leb, leb-true}
+use lib.Dec.{eqb, ltb, leb}
+use lib.ListN.{length}
+use Rattle.house.specs.Text.{Text, bytes, same, all, run, number, isEmpty, isDigit}
+use Rattle.house.specs.Dates.{isDate}
+use Rattle.house.proofs.Small.{both, clash}
+use Rattle.lines.specs.Lines.{fieldOf}
+use Rattle.lines.specs.Records.{Rec, IV, IP, II, IE, IN, IA, recordOf, recOf}
+use Rattle.book.specs.declared.Sections.{Sections}
+use Rattle.book.specs.Book.{codeText}
+use Rattle.rules.specs.Forms.{text, table, formOf, isJudged, isOptional, isMissing, isMisformed, isSound, countForm, isNumber}
+use Rattle.rules.specs.Seen.{Setting, Seen}
+use Rattle.rules.specs.Codes.{bookKind, codeRead, codeIn, dayIsSound, recordDay, isInForce}
+use Rattle.rules.specs.Rules.{afterToday, beforeBirth, brokenAt}
+use Rattle.forms.specs.Leaves.{valueOf, lowest, numberLater, numberRule, uliLater, uliRule, dayLater, dayRule, bornAfter, dateLater, dateRule, versionLater, versionRule}
+use Rattle.forms.proofs.FieldLaws.{text-is}
+use Rattle.judge.specs.declared.Broken.{Broken}
+use Rattle.judge.specs.declared.Day.{Day}
+use Rattle.judge.specs.Inside.{listed}
+use Rattle.judge.specs.Look.{knownBy, forceBy}
+use Rattle.judge.specs.Fields.{broken, laterAt, codeLater, Shows, DayIs, Looks}
+use Rattle.judge.proofs.Collapse.{sounds, codes, iv-rest, ip-2, ip-25, ip-rest, in-2, in-3, in-5, in-6, in-rest, ia-2, ia-3, ia-4, ia-rest}
+use Rattle.judge.proofs.AtLaws.{plain-at, sound-at, code-at, version-at}
+
+-- SOUND FIELDS
+
+-- a later rule's number counts only at a sound field
+pub low-same : (k : ℕ) (l : Rec) (f m n : ℕ) → (isSound k l f ≡ true → m ≡ n) → lowest k l f m ≡ lowest k l f n
+unfolding lowest isSound
+low-same k l f m n h = go (isMissing k l f) (isMisformed k l f) h
+  where
+    go : (a b : Bool) → (not a && not b ≡ true → m ≡ n) → cond a 1 (cond b 2 m) ≡ cond a 1 (cond b 2 n)
+    go true b h = refl
+    go false true h = refl
+    go false false h = h refl
+
+-- a mandatory field that is sound is of its form
+pub mandatory : (k : ℕ) (l : Rec) (f : ℕ) (form : Bool) → isJudged k f ≡ true → isOptional k l f ≡ false → formOf k f (text l f) ≡ form → isSound k l f ≡ true → form ≡ true
+unfolding isSound isMissing isMisformed
+mandatory k l f form j o e = rw (j, o, e) (go (isEmpty (text l f)) form)
+  where
+    go : (e ok : Bool) → (not e && not (not ok && not e)) ≡ true → ok ≡ true
+    go true ok h = clash (cc)
+    go false true h = refl
+    go false false h = clash (cc)
+
+flip : (b : Bool) (n : ℕ) → cond b 0 n ≡ cond (not b) n 0
+flip true n = refl
+flip false n = refl
+
+-- a number of up to five digits is read whole
+value-is : (t : Text) → isNumber t ≡ true → valueOf t ≡ number t
+unfolding isNumber countForm valueOf run
+value-is t h =
+    let p = both (leb 1 (length t) && leb (length t) 5 && all isDigit t) (ltb 0 (number t)) h in
+    let q = both (leb 1 (length t) && leb (length t) 5) (all isDigit t) (p .0) in
+    let r = both (leb 1 (length t)) (leb (length t) 5) (q .0) in
+    let m : length t ≤ 5 = leb-true (length t) 5 (r .1) in
+    let w : leb (length t) 9 ≡ true = le-leb (length t) 9 (omega arith) in
+    rw (r .0, w, q .1)
+
+module _ (k : ℕ) (l : Rec) where
+  number-is : (place : ℕ) → (isSound k l 2 ≡ true → isNumber (text l 2) ≡ true) → numberRule k l place ≡ lowest k l 2 (cond (not (eqb (number (text l 2)) place)) 7 0)
+  unfolding numberLater
+  number-is place h = low-same k l 2 _ _ (λ z. rw (value-is (text l 2) (h z)) (flip (eqb (number (text l 2)) place) 7))
+
+  date-is : (f today : ℕ) (ip : Rec) → (isSound k l f ≡ true → isDate (text l f) ≡ true)
+      → dateRule k l f today ip ≡ lowest k l f (cond (ltb today (number (text l f)) || bornAfter (number (text l f)) ip) 8 0)
+  unfolding dateLater
+  date-is f today ip h = low-same k l f _ _ (λ z. rw (h z))
+
+-- THE ANSWER AT A FIELD
+
+answer : (b : Broken) (x y : ℕ) (ls : List ℕ) → b ≡ broken x 0 0 → x ≡ y → ls ≡ listed (broken y 0 0) → listed b ≡ ls
+answer b x y ls p q r = rw (p, q, r)
+
+module _ (b : Broken) (x : ℕ) (p : b ≡ broken x 0 0) (line : Text) (s : Setting) (v : Seen) (lv : v .line ≡ recOf line) where
+  pub kind-at : (k : ℕ) → recordOf line ≡ k → v .line .kind ≡ k
+  unfolding recOf
+  kind-at k e = ap (λ (l : Rec). l .kind) lv ∙ e
+
+  pub plain : (k f : ℕ) → recordOf line ≡ k → x ≡ lowest k (recOf line) f 0 → laterAt s v f ≡ [] → listed b ≡ brokenAt s v f
+  plain k f e q h = answer b x _ _ p (q ∙ ap (λ (l : Rec). lowest k l f 0) (sym lv)) (plain-at s v k f (kind-at k e) h)
+
+  -- field 2
+  module _ (k place : ℕ) (e : recordOf line ≡ k) (pv : v .place ≡ place) (q : x ≡ numberRule k (recOf line) place) where
+    pub number-at : (isSound k (v .line) 2 ≡ true → isNumber (text (v .line) 2) ≡ true) → laterAt s v 2 ≡ sounds (v .line) k 2 (not (eqb (number (text (v .line) 2)) (v .place))) 7
+        → listed b ≡ brokenAt s v 2
+    number-at h m =
+        answer b x _ _ p
+        (q ∙ ap (λ (l : Rec). numberRule k l place) (sym lv) ∙ ap (numberRule k (v .line)) (sym pv) ∙ number-is k (v .line) (v .place) h)
+        (sound-at s v k 2 (kind-at k e) (not (eqb (number (text (v .line) 2)) (v .place))) 7 refl m)
+
+-- IV
+pub need-iv-2 : (b : Broken) (x : ℕ) (line : Text) (f : ℕ) → b ≡ broken x 0 0 → recordOf line ≡ 1 → f ≡ 2 → x ≡ versionRule (recOf line)
+    → (s : Setting) (v : Seen) → v .line ≡ recOf line → listed b ≡ brokenAt s v f
+unfolding versionLater
+need-iv-2 b x line f p e h q s v lv =
+    rw h
+    (answer b x _ _ p
+    (q ∙ ap versionRule (sym lv) ∙ ap (lowest IV (v .line) 2) (flip (same (text (v .line) 2) (bytes "7.2")) 3))
+    (version-at s v (kind-at b x p line s v lv 1 e)))
+
+pub need-iv-rest : (b : Broken) (x : ℕ) (line : Text) (f : ℕ) → b ≡ broken x 0 0 → recordOf line ≡ 1 → (f ≡ 2 → ⊥) → x ≡ lowest 1 (recOf line) f 0
+    → (s : Setting) (v : Seen) → v .line ≡ recOf line → listed b ≡ brokenAt s v f
+need-iv-rest b x line f p e h q s v lv = plain b x p line s v lv 1 f e q (iv-rest s v f (kind-at b x p line s v lv 1 e) h)
+
+pub ruleset for-judge-iv = (needs, need-iv-2, need-iv-rest)
+
+-- CODES, BY LOOK-UP
+
+module _ (s : Setting) (v : Seen) (today : ℕ) (book : Text) (q : Sections) (day : Day) (ls : Looks today book q s) (d : DayIs day v) (of : ℕ) (c y : Text) (ce : c ≡ y) where
+  pub known-same : knownBy book q of y ≡ s .known of c
+  known-same = sym (ap (s .known of) ce ∙ ap (λ (g : ℕ → Text → Bool). g of y) (ls .known-is))
+
+  pub force-same : (day .sound && not (forceBy book q (day .number) of y)) ≡ (dayIsSound v && not (isInForce s v of c))
+  unfolding isInForce
+  force-same = go (day .sound) refl ∙ ap (λ (b : Bool). b && not (s .in-force (recordDay v) of c)) (sym (d .sound-is))
+    where
+      go : (b : Bool) → day .sound ≡ b → (b && not (forceBy book q (day .number) of y)) ≡ (b && not (s .in-force (recordDay v) of c))
+      go true e =
+          ap not
+          (sym
+          (ap (s .in-force (recordDay v) of) ce
+          ∙ ap (λ (g : ℕ → ℕ → Text → Bool). g (recordDay v) of y) (ls .force-is)
+          ∙ ap (λ (n : ℕ). forceBy book q n of y) (d .number-is e)))
+      go false e = refl
+
+module _ (x : ℕ) (line : Text) (s : Setting) (v : Seen) (lv : v .line ≡ recOf line)
+    (today : ℕ) (book : Text) (q : Sections) (day : Day) (ls : Looks today book q s) (d : DayIs day v) (k f of : ℕ)
+    (t : Text) (pt : t ≡ fieldOf line f) (ce : codeIn k (v .line) f ≡ codeText of (text (v .line) f) []) where
+  read-same : codeIn k (v .line) f ≡ codeText of t []
+  read-same = ce ∙ ap (λ (u : Text). codeText of u []) (ap (λ (l : Rec). text l f) lv ∙ text-is line f ∙ sym pt)
+
+  pub code-is : x ≡ lowest k (recOf line) f (codeLater (isEmpty (text (recOf line) f)) (knownBy book q of (codeText of t [])) (day .sound && not (forceBy book q (day .number) of (codeText of t []))))
+      → x ≡ lowest k (v .line) f (codeLater (isEmpty (text (v .line) f)) (s .known of (codeIn k (v .line) f)) (dayIsSound v && not (isInForce s v of (codeIn k (v .line) f))))
+  code-is z =
+      z
+      ∙ ap (λ (l : Rec). lowest k l f (codeLater (isEmpty (text l f)) (knownBy book q of (codeText of t [])) (day .sound && not (forceBy book q (day .number) of (codeText of t []))))) (sym lv)
+      ∙ ap (λ (u : Bool). lowest k (v .line) f (codeLater (isEmpty (text (v .line) f)) u (day .sound && not (forceBy book q (day .number) of (codeText of t [])))))
+      (known-same s v today book q day ls d of (codeIn k (v .line) f) (codeText of t []) read-same)
+      ∙ ap (λ (u : Bool). lowest k (v .line) f (codeLater (isEmpty (text (v .line) f)) (s .known of (codeIn k (v .line) f)) u))
+      (force-same s v today book q day ls d of (codeIn k (v .line) f) (codeText of t []) read-same)
+
+-- at a field with these rules alone
+code-need : (b : Broken) (x : ℕ) → b ≡ broken x 0 0 → (line : Text) (s : Setting) (v : Seen) → v .line ≡ recOf line → (k f of : ℕ) → recordOf line ≡ k
+    → x ≡ lowest k (v .line) f (codeLater (isEmpty (text (v .line) f)) (s .known of (codeIn k (v .line) f)) (dayIsSound v && not (isInForce s v of (codeIn k (v .line) f))))
+    → laterAt s v f ≡ codes (v .line) k f (s .known of (codeIn k (v .line) f)) (dayIsSound v && not (isInForce s v of (codeIn k (v .line) f))) []
+    → listed b ≡ brokenAt s v f
+code-need b x p line s v lv k f of e z h =
+    answer b x _ _ p z
+    (code-at s v k f (kind-at b x p line s v lv k e) (s .known of (codeIn k (v .line) f)) (dayIsSound v && not (isInForce s v of (codeIn k (v .line) f))) h)
+
+-- THE KINDS
+
+module _ (b : Broken) (x : ℕ) (line : Text) (f : ℕ) (p : b ≡ broken x 0 0) where
+  -- IP
+  module _ (e : recordOf line ≡ 3) where
+    pub need-ip-2 : (place today : ℕ) → f ≡ 2 → x ≡ numberRule 3 (recOf line) place
+        → (s : Setting) (v : Seen) → v .line ≡ recOf line → v .place ≡ place → s .today ≡ today → listed b ≡ brokenAt s v f
+    unfolding isJudged isOptional formOf table
+    need-ip-2 place today h z s v lv pv tv =
+        rw h (number-at b x p line s v lv 3 place e pv z (mandatory 3 (v .line) 2 (isNumber (text (v .line) 2)) refl refl refl) (ip-2 s v (kind-at b x p line s v lv 3 e)))
+
+    pub need-ip-25 : (place today : ℕ) → f ≡ 25 → x ≡ dayRule (recOf line) today
+        → (s : Setting) (v : Seen) → v .line ≡ recOf line → v .place ≡ place → s .today ≡ today → listed b ≡ brokenAt s v f
+    unfolding isJudged isOptional formOf table dayLater afterToday
+    need-ip-25 place today h z s v lv pv tv =
+        rw h
+        (answer b x _ _ p
+        (z
+        ∙ ap (λ (l : Rec). dayRule l today) (sym lv)
+        ∙ low-same 3 (v .line) 25 _ (cond (ltb (s .today) (number (text (v .line) 25)) || false) 8 0)
+        (λ w. rw (mandatory 3 (v .line) 25 (isDate (text (v .line) 25)) refl refl refl w, tv) (or-false (ltb today (number (text (v .line) 25))))))
+        (sound-at s v 3 25 (kind-at b x p line s v lv 3 e) (ltb (s .today) (number (text (v .line) 25)) || false) 8 refl (ip-25 s v (kind-at b x p line s v lv 3 e))))
+      where
+        or-false : (u : Bool) → _≡_ {A = ℕ} (cond u 8 0) (cond (u || false) 8 0)
+        or-false true = refl
+        or-false false = refl
+
+    pub need-ip-rest : (place today : ℕ) → (f ≡ 2 → ⊥) → (f ≡ 25 → ⊥) → x ≡ lowest 3 (recOf line) f 0
+        → (s : Setting) (v : Seen) → v .line ≡ recOf line → v .place ≡ place → s .today ≡ today → listed b ≡ brokenAt s v f
+    need-ip-rest place today n2 n25 z s v lv pv tv = plain b x p line s v lv 3 f e z (ip-rest s v f (kind-at b x p line s v lv 3 e) n2 n25)
+
+pub ruleset for-judge-ip = (needs, need-ip-2, need-ip-25, need-ip-rest)
+
+-- fields 3, and 6 or 5, of a line below an IP
+module _ (b : Broken) (x : ℕ) (p : b ≡ broken x 0 0) (line ip : Text) (s : Setting) (v : Seen) (lv : v .line ≡ recOf line) (iv : v .ip ≡ recOf ip) (k : ℕ) (e : recordOf line ≡ k) where
+  pub uli-at : x ≡ uliRule k (recOf line) (recOf ip) → laterAt s v 3 ≡ sounds (v .line) k 3 (isSound IP (v .ip) 3 && not (same (text (v .line) 3) (text (v .ip) 3))) 6
+      → listed b ≡ brokenAt s v 3
+  unfolding uliLater
+  uli-at z h =
+      answer b x _ _ p (z ∙ ap (λ (l : Rec). uliRule k l (recOf ip)) (sym lv) ∙ ap (uliRule k (v .line)) (sym iv))
+      (sound-at s v k 3 (kind-at b x p line s v lv k e) (isSound IP (v .ip) 3 && not (same (text (v .line) 3) (text (v .ip) 3))) 6 refl h)
+
+  date-at : (f today : ℕ) → s .today ≡ today → x ≡ dateRule k (recOf line) f today (recOf ip) → (isSound k (v .line) f ≡ true → isDate (text (v .line) f) ≡ true)
+      → laterAt s v f ≡ sounds (v .line) k f (afterToday s v f || beforeBirth v f) 8 → listed b ≡ brokenAt s v f
+  unfolding afterToday beforeBirth bornAfter
+  date-at f today tv z i h =
+      answer b x _ _ p
+      (z
+      ∙ ap (λ (l : Rec). dateRule k l f today (recOf ip)) (sym lv)
+      ∙ ap (dateRule k (v .line) f today) (sym iv)
+      ∙ ap (λ (n : ℕ). dateRule k (v .line) f n (v .ip)) (sym tv)
+      ∙ date-is k (v .line) f (s .today) (v .ip) i)
+      (sound-at s v k f (kind-at b x p line s v lv k e) (afterToday s v f || beforeBirth v f) 8 refl h)
+
+module _ (b : Broken) (x : ℕ) (line ip book : Text) (q : Sections) (place : ℕ) (day : Day) (today f : ℕ) (p : b ≡ broken x 0 0) where
+  -- IN
+  module _ (e : recordOf line ≡ 6) where
+    pub need-in-2 : f ≡ 2 → x ≡ numberRule 6 (recOf line) place → (s : Setting) (v : Seen) → Looks today book q s → Shows place line ip v → DayIs day v → listed b ≡ brokenAt s v f
+    unfolding isJudged isOptional formOf table
+    need-in-2 h z s v ls sh d =
+        rw h
+        (number-at b x p line s v (sh .line-is) 6 place e (sh .place-is) z (mandatory 6 (v .line) 2 (isNumber (text (v .line) 2)) refl refl refl)
+        (in-2 s v (kind-at b x p line s v (sh .line-is) 6 e)))
+
+    pub need-in-3 : f ≡ 3 → x ≡ uliRule 6 (recOf line) (recOf ip) → (s : Setting) (v : Seen) → Looks today book q s → Shows place line ip v → DayIs day v → listed b ≡ brokenAt s v f
+    need-in-3 h z s v ls sh d = rw h (uli-at b x p line ip s v (sh .line-is) (sh .ip-is) 6 e z (in-3 s v (kind-at b x p line s v (sh .line-is) 6 e)))
+
+    pub need-in-5 : f ≡ 5 → x ≡ dateRule 6 (recOf line) 5 today (recOf ip) → (s : Setting) (v : Seen) → Looks today book q s → Shows place line ip v → DayIs day v → listed b ≡ brokenAt s v f
+    unfolding isJudged isOptional formOf table
+    need-in-5 h z s v ls sh d =
+        rw h
+        (date-at b x p line ip s v (sh .line-is) (sh .ip-is) 6 e 5 today (ls .today-is) z (mandatory 6 (v .line) 5 (isDate (text (v .line) 5)) refl refl refl)
+        (in-5 s v (kind-at b x p line s v (sh .line-is) 6 e)))
+
+    pub need-in-6 : (t : Text) → f ≡ 6 → t ≡ fieldOf line 6
+        → x ≡ lowest 6 (recOf line) 6 (codeLater (isEmpty (text (recOf line) 6)) (knownBy book q 6 (codeText 6 t [])) (day .sound && not (forceBy book q (day .number) 6 (codeText 6 t []))))
+        → (s : Setting) (v : Seen) → Looks today book q s → Shows place line ip v → DayIs day v → listed b ≡ brokenAt s v f
+    unfolding codeIn bookKind codeRead
+    need-in-6 t h pt z s v ls sh d =
+        rw h (code-need b x p line s v (sh .line-is) 6 6 6 e (code-is x line s v (sh .line-is) today book q day ls d 6 6 6 t pt refl z) (in-6 s v (kind-at b x p line s v (sh .line-is) 6 e)))
+
+    pub need-in-rest : (f ≡ 2 → ⊥) → (f ≡ 3 → ⊥) → (f ≡ 5 → ⊥) → (f ≡ 6 → ⊥) → x ≡ lowest 6 (recOf line) f 0
+        → (s : Setting) (v : Seen) → Looks today book q s → Shows place line ip v → DayIs day v → listed b ≡ brokenAt s v f
+    need-in-rest n2 n3 n5 n6 z s v ls sh d =
+        plain b x p line s v (sh .line-is) 6 f e z (in-rest s v f (kind-at b x p line s v (sh .line-is) 6 e) n2 n3 n5 n6)
+
+  -- IA
+  module _ (e : recordOf line ≡ 7) where
+    pub need-ia-2 : f ≡ 2 → x ≡ numberRule 7 (recOf line) place → (s : Setting) (v : Seen) → Looks today book q s → Shows place line ip v → DayIs day v → listed b ≡ brokenAt s v f
+    unfolding isJudged isOptional formOf table
+    need-ia-2 h z s v ls sh d =
+        rw h
+        (number-at b x p line s v (sh .line-is) 7 place e (sh .place-is) z (mandatory 7 (v .line) 2 (isNumber (text (v .line) 2)) refl refl refl)
+        (ia-2 s v (kind-at b x p line s v (sh .line-is) 7 e)))
+
+    pub need-ia-3 : f ≡ 3 → x ≡ uliRule 7 (recOf line) (recOf ip) → (s : Setting) (v : Seen) → Looks today book q s → Shows place line ip v → DayIs day v → listed b ≡ brokenAt s v f
+    need-ia-3 h z s v ls sh d = rw h (uli-at b x p line ip s v (sh .line-is) (sh .ip-is) 7 e z (ia-3 s v (kind-at b x p line s v (sh .line-is) 7 e)))
+
+    pub need-ia-4 : (t : Text) → f ≡ 4 → t ≡ fieldOf line 4
+        → x ≡ lowest 7 (recOf line) 4 (codeLater (isEmpty (text (recOf line) 4)) (knownBy book q 2 (codeText 2 t [])) (day .sound && not (forceBy book q (day .number) 2 (codeText 2 t []))))
+        → (s : Setting) (v : Seen) → Looks today book q s → Shows place line ip v → DayIs day v → listed b ≡ brokenAt s v f
+    unfolding codeIn bookKind codeRead
+    need-ia-4 t h pt z s v ls sh d =
+        rw h (code-need b x p line s v (sh .line-is) 7 4 2 e (code-is x line s v (sh .line-is) today book q day ls d 7 4 2 t pt refl z) (ia-4 s v (kind-at b x p line s v (sh .line-is) 7 e)))
+
+    pub need-ia-rest : (f ≡ 2 → ⊥) → (f ≡ 3 → ⊥) → (f ≡ 4 → ⊥) → x ≡ lowest 7 (recOf line) f 0
+        → (s : Setting) (v : Seen) → Looks today book q s → Shows place line ip v → DayIs day v → listed b ≡ brokenAt s v f
+    need-ia-rest n2 n3 n4 z s v ls sh d =
+        plain b x p line s v (sh .line-is) 7 f e z (ia-rest s v f (kind-at b x p line s v (sh .line-is) 7 e) n2 n3 n4)
+
+pub ruleset for-judge-in = (needs, need-in-2, need-in-3, need-in-5, need-in-6, need-in-rest)
+
+pub ruleset for-judge-ia = (needs, need-ia-2, need-ia-3, need-ia-4, need-ia-rest)

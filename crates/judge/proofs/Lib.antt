@@ -1,0 +1,19 @@
+-- The laws of the crate, for its own proofs and for the crates above.
+-- Assumes nothing.
+-- What is kept of a list of findings
+pub mod KeepLaws
+-- The walk over the lines
+pub mod WalkLaws
+pub mod StepLaws
+pub mod TurnLaws
+-- The rules at a field
+pub mod Collapse
+pub mod AtLaws
+pub mod RuleLaws
+pub mod LookLaws
+-- What the functions' own needs ask
+mod EmitNeeds
+mod WalkNeeds
+mod FieldNeeds
+mod LaterNeeds
+mod HeadNeeds

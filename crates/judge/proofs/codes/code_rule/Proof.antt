@@ -1,0 +1,16 @@
+-- `judge::codes::code_rule` meets its contract.
+-- Assumes nothing.
+use Rattle.judge.proofs.LookLaws.{for-code-rule}
+use Rattle.judge.proofs.codes.code_rule.Statement.{statement}
+use Rattle.judge.proofs.codes.code_rule.Tie as tie
+
+pub code-rule-spec : {M : Type 1} → statement M
+code-rule-spec =
+    tie.close
+    (tie.spec
+    (λ c. search for-code-rule)
+    (λ c. search for-code-rule)
+    (λ c. search for-code-rule)
+    (λ c. search for-code-rule)
+    (λ c. search for-code-rule)
+    (λ c. search for-code-rule))

@@ -1,0 +1,71 @@
+-- Working definitions: the rules that are broken at a field. No public contract rests on this page.
+-- Assumes nothing.
+use Prim.Native.Nat.{ℕ}
+use mathlib.Core.Path.{_≡_}
+use mathlib.Core.Bool.{Bool, true, not, cond, _&&_, _||_}
+use mathlib.Core.List.{List, []}
+use lib.ListN.{drop}
+use Rattle.house.specs.Text.{Text, any, same, isEmpty}
+use Rattle.lines.specs.Lines.{fieldOf}
+use Rattle.lines.specs.Records.{Rec, IE, recOf, recs}
+use Rattle.book.specs.declared.Sections.{Sections}
+use Rattle.book.specs.Book.{codeText}
+use Rattle.rules.specs.Forms.{text, isSound, isGiven}
+use Rattle.rules.specs.Blocks.{adds, changes, deletes}
+use Rattle.rules.specs.Seen.{Setting, Seen}
+use Rattle.rules.specs.Codes.{dayIsSound, recordDay}
+use Rattle.rules.specs.Rules.{sameAntigen, rulesOf, brokenBy}
+use Rattle.forms.specs.Leaves.{lowest}
+use Rattle.judge.specs.declared.Broken.{Broken}
+use Rattle.judge.specs.declared.Day.{Day}
+use Rattle.judge.specs.Look.{knownBy, forceBy}
+
+abbrev pub broken : ℕ → ℕ → ℕ → Broken
+broken a b c = record { a = a; b = b; c = c }
+
+-- those of the rules after the first two that are broken at a field
+unfoldable pub laterAt : Setting → Seen → ℕ → List ℕ
+laterAt s v f = brokenBy s v f (drop 2 (rulesOf s))
+
+-- rules 4 and 5 at a sound field: unless it is empty, its code is known or not, and is out of force or not
+unfoldable pub codeLater : Bool → Bool → Bool → ℕ
+codeLater empty known out = cond empty 0 (cond known (cond out 5 0) 4)
+
+-- rules 16 to 18, by the type
+unfoldable pub ledgerRule : Bool → Text → Bool → ℕ
+ledgerRule inb type live = cond inb (cond live (cond (same type adds) 16 0) (cond (same type changes) 17 (cond (same type deletes) 18 0))) 0
+
+-- rules 1, 2, 4 and 5 at field f of a line of kind k, whose code is one of kind `of`
+abbrev pub codeBy : ℕ → Rec → ℕ → ℕ → Text → Text → Sections → Day → ℕ
+codeBy k l f of t book q day =
+    lowest k l f (codeLater (isEmpty (text l f)) (knownBy book q of (codeText of t [])) (day .sound && not (forceBy book q (day .number) of (codeText of t []))))
+
+-- rule 11 there, the pair being of kind `pair` and the vaccine in the head
+abbrev pub pairBy : ℕ → Rec → ℕ → ℕ → Text → ℕ → Rec → Text → Sections → Day → ℕ
+pairBy k l f of t pair head book q day =
+    cond
+    ((isGiven 4 head 8 && knownBy book q 1 (codeText 1 (text head 8) [])) && (isGiven k l f && knownBy book q of (codeText of t []))
+    && (not (knownBy book q pair (codeText pair (text head 8) t)) || (day .sound && not (forceBy book q (day .number) pair (codeText pair (text head 8) t)))))
+    11 0
+
+unfoldable pub antigenAt : Text → Text → Text → Text → Sections → Day → Broken
+antigenAt line head since book q day =
+    broken (codeBy IE (recOf line) 4 2 (fieldOf line 4) book q day) (pairBy IE (recOf line) 4 2 (fieldOf line 4) 8 (recOf head) book q day)
+    (cond (isSound IE (recOf line) 4 && any (sameAntigen (recOf line)) (recs since)) 12 0)
+
+-- What a function is told of what is seen from a line, and of what the file is judged by
+
+pub record Shows (place : ℕ) (line ip : Text) (v : Seen) : Type 0 where
+  pub place-is : v .place ≡ place
+  pub line-is : v .line ≡ recOf line
+  pub ip-is : v .ip ≡ recOf ip
+
+-- the record's day
+pub record DayIs (day : Day) (v : Seen) : Type 0 where
+  pub sound-is : dayIsSound v ≡ day .sound
+  pub number-is : day .sound ≡ true → recordDay v ≡ day .number
+
+pub record Looks (today : ℕ) (book : Text) (q : Sections) (s : Setting) : Type 0 where
+  pub today-is : s .today ≡ today
+  pub known-is : s .known ≡ knownBy book q
+  pub force-is : s .in-force ≡ forceBy book q

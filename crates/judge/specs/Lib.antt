@@ -1,0 +1,6 @@
+-- Working definitions for the crate's own functions; the meaning of what is judged stands in crates/rules/specs.
+-- Assumes nothing.
+pub mod Inside
+pub mod Walk
+pub mod Look
+pub mod Fields

@@ -1,0 +1,129 @@
+// The rules that are broken at a field, by the kind of its record and its number.
+use crate::Broken;
+use crate::Day;
+use crate::codes::code_rule;
+use crate::codes::pair_rule;
+use crate::later::again_rule;
+use book::Sections;
+use lines::IA;
+use lines::IE;
+use lines::IN;
+use lines::IP;
+use lines::IV;
+ghost use mathlib.Core.Path.{_≡_};
+ghost use mathlib.Core.List.{reverse};
+ghost use Rattle.lines.specs.Records.{recordOf, recOf, recs};
+ghost use Rattle.rules.specs.Seen.{Setting, Seen};
+ghost use Rattle.rules.specs.Rules.{brokenAt};
+ghost use Rattle.judge.specs.Inside.{listed};
+ghost use Rattle.judge.specs.Fields.{Shows, DayIs, Looks, antigenAt};
+
+// One rule, or none.
+fn one(a: u8) -> Broken
+    ensures { λ r. ⌜ r ≡ record { a = a; b = 0; c = 0 } ⌝ }
+{
+    Broken { a, b: 0, c: 0 }
+}
+
+// Field f of an IV.
+pub(crate) fn judge_iv(line: &[u8], f: usize) -> Broken
+    requires { ⌜ recordOf (now line) ≡ 1 ⌝ }
+    ensures { λ r. ⌜ ((s : Setting) (v : Seen) → v .line ≡ recOf (now (line .entry)) → listed r ≡ brokenAt s v f) ⌝ }
+{
+    match f {
+        2 => one(forms::version_rule(line)),
+        _ => one(forms::basic_rule(IV, line, f)),
+    }
+}
+
+// Field f of an IP.
+pub(crate) fn judge_ip(line: &[u8], place: usize, today: u32, f: usize) -> Broken
+    requires { ⌜ recordOf (now line) ≡ 3 ⌝ }
+    ensures { λ r. ⌜ ((s : Setting) (v : Seen) → v .line ≡ recOf (now (line .entry)) → v .place ≡ place → s .today ≡ today → listed r ≡ brokenAt s v f) ⌝ }
+{
+    match f {
+        2 => one(forms::number_rule(IP, line, place)),
+        25 => one(forms::day_rule(line, today)),
+        _ => one(forms::basic_rule(IP, line, f)),
+    }
+}
+
+// Field f of an IN.
+pub(crate) fn judge_in(
+    line: &[u8],
+    ip: &[u8],
+    book: &[u8],
+    q: Sections,
+    place: usize,
+    day: Day,
+    today: u32,
+    f: usize,
+) -> Broken
+    requires { ⌜ recordOf (now line) ≡ 6 ⌝ }
+    ensures { λ r. ⌜ ((s : Setting) (v : Seen) → Looks today (now (book .entry)) q s → Shows place (now (line .entry)) (now (ip .entry)) v → DayIs day v → listed r ≡ brokenAt s v f) ⌝ }
+{
+    match f {
+        2 => one(forms::number_rule(IN, line, place)),
+        3 => one(forms::uli_rule(IN, line, ip)),
+        5 => one(forms::date_rule(IN, line, 5, today, ip)),
+        6 => one(code_rule(IN, line, 6, 6, lines::field_of(line, 6), book, q, day)),
+        _ => one(forms::basic_rule(IN, line, f)),
+    }
+}
+
+// Field f of an IA.
+pub(crate) fn judge_ia(
+    line: &[u8],
+    ip: &[u8],
+    book: &[u8],
+    q: Sections,
+    place: usize,
+    day: Day,
+    today: u32,
+    f: usize,
+) -> Broken
+    requires { ⌜ recordOf (now line) ≡ 7 ⌝ }
+    ensures { λ r. ⌜ ((s : Setting) (v : Seen) → Looks today (now (book .entry)) q s → Shows place (now (line .entry)) (now (ip .entry)) v → DayIs day v → listed r ≡ brokenAt s v f) ⌝ }
+{
+    match f {
+        2 => one(forms::number_rule(IA, line, place)),
+        3 => one(forms::uli_rule(IA, line, ip)),
+        4 => one(code_rule(IA, line, 4, 2, lines::field_of(line, 4), book, q, day)),
+        _ => one(forms::basic_rule(IA, line, f)),
+    }
+}
+
+// IE 4: rules 1, 2, 4, 5, 11 and 12.
+fn antigen_at(line: &[u8], head: &[u8], since: &[u8], book: &[u8], q: Sections, day: Day) -> Broken
+    ensures { λ r. ⌜ r ≡ antigenAt (now (line .entry)) (now (head .entry)) (now (since .entry)) (now (book .entry)) q day ⌝ }
+{
+    let t = lines::field_of(line, 4);
+    let a = code_rule(IE, line, 4, 2, t, book, q, day);
+    let b = pair_rule(IE, line, 4, 2, t, 8, head, book, q, day);
+    let c = again_rule(line, since);
+    Broken { a, b, c }
+}
+
+// Field f of an IE.
+pub(crate) fn judge_ie(
+    line: &[u8],
+    ip: &[u8],
+    head: &[u8],
+    since: &[u8],
+    book: &[u8],
+    q: Sections,
+    place: usize,
+    day: Day,
+    today: u32,
+    f: usize,
+) -> Broken
+    requires { ⌜ recordOf (now line) ≡ 5 ⌝ }
+    ensures { λ r. ⌜ ((s : Setting) (v : Seen) → Looks today (now (book .entry)) q s → Shows place (now (line .entry)) (now (ip .entry)) v → DayIs day v → v .head ≡ recOf (now (head .entry)) → v .antigens ≡ reverse (recs (now (since .entry))) → listed r ≡ brokenAt s v f) ⌝ }
+{
+    match f {
+        2 => one(forms::number_rule(IE, line, place)),
+        3 => one(forms::uli_rule(IE, line, ip)),
+        4 => antigen_at(line, head, since, book, q, day),
+        _ => one(forms::basic_rule(IE, line, f)),
+    }
+}
