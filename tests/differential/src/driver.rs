@@ -100,22 +100,24 @@ impl Run {
         }
     }
 
+    /// A smaller case may not have more findings than the case had: what is left
+    /// is then easy to read.
     fn report_smaller(&self, program: &Program, number: usize, case: &Case) {
-        let differ = |cases: &[Case]| -> Vec<bool> {
-            cases.iter().map(|case| differs(program, case)).collect()
-        };
-        let differ_at_once = |cases: &[Case]| -> Vec<bool> {
-            let said = program.run(cases);
-            if said.contains(&None) {
-                return differ(cases);
-            }
+        if !differ(program, std::slice::from_ref(case))[0] {
+            println!("  alone it does not differ");
+            return;
+        }
+        let most = case.verdict().numbers[3];
+        let is_no_worse = |case: &Case| case.verdict().numbers[3] <= most;
+        let property = |cases: &[Case]| -> Vec<bool> {
+            let differ = differ(program, cases);
             cases
                 .iter()
-                .zip(said)
-                .map(|(case, said)| said != Some(case.verdict()))
+                .zip(differ)
+                .map(|(case, differs)| differs && is_no_worse(case))
                 .collect()
         };
-        let smaller = shrink(case, &differ_at_once);
+        let smaller = shrink(case, &property);
         let path = self.save(&format!("{}-{number}-smaller", self.seed), &smaller);
         println!("  made smaller:");
         print_case(&smaller);
@@ -138,8 +140,20 @@ impl Run {
     }
 }
 
-fn differs(program: &Program, case: &Case) -> bool {
-    program.run(std::slice::from_ref(case))[0] != Some(case.verdict())
+/// Whether the program and the implementation differ on each case. Where the
+/// program stops, the cases after that one are asked again.
+fn differ(program: &Program, cases: &[Case]) -> Vec<bool> {
+    let mut differ = Vec::new();
+    while differ.len() < cases.len() {
+        let rest = &cases[differ.len()..];
+        for (case, said) in rest.iter().zip(program.run(rest)) {
+            differ.push(said != Some(case.verdict()));
+            if said.is_none() {
+                break;
+            }
+        }
+    }
+    differ
 }
 
 /// What document 01 says of the ledger and the findings area at each answer.

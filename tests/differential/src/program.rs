@@ -2,7 +2,7 @@
 
 use crate::case::{Case, Verdict};
 use std::io::{BufWriter, Read, Write};
-use std::process::{ChildStdin, Command, Stdio};
+use std::process::{Child, ChildStdin, Command, Stdio};
 
 pub struct Program {
     pub command: Vec<String>,
@@ -24,12 +24,7 @@ impl Program {
     }
 
     fn printed(&self, cases: &[Case]) -> Vec<u8> {
-        let mut child = Command::new(&self.command[0])
-            .args(&self.command[1..])
-            .stdin(Stdio::piped())
-            .stdout(Stdio::piped())
-            .spawn()
-            .unwrap_or_else(|error| panic!("cannot start {}: {error}", self.command[0]));
+        let mut child = self.started();
         let input = child.stdin.take().expect("a pipe");
         let mut output = child.stdout.take().expect("a pipe");
         let mut printed = Vec::new();
@@ -39,6 +34,18 @@ impl Program {
         });
         let _ = child.wait();
         printed
+    }
+
+    fn started(&self) -> Child {
+        let mut command = Command::new(&self.command[0]);
+        command
+            .args(&self.command[1..])
+            .stdin(Stdio::piped())
+            .stdout(Stdio::piped());
+        command.spawn().unwrap_or_else(|error| {
+            eprintln!("cannot start {}: {error}", self.command[0]);
+            std::process::exit(2)
+        })
     }
 }
 

@@ -53,9 +53,10 @@ fn some_cases(case: &Case, cuts: &mut impl Iterator<Item = Cut>) -> Vec<Case> {
         let Some(cut) = cuts.next() else {
             break;
         };
-        let smaller = cut.applied(case);
-        bytes += smaller.file.len() + smaller.book.len() + smaller.ledger.len();
-        cases.push(smaller);
+        for smaller in cut.applied(case) {
+            bytes += smaller.file.len() + smaller.book.len() + smaller.ledger.len();
+            cases.push(smaller);
+        }
     }
     cases
 }
@@ -75,16 +76,53 @@ struct Cut {
 }
 
 impl Cut {
-    fn applied(&self, case: &Case) -> Case {
-        let mut case = case.clone();
-        let bytes = match self.area {
-            Area::File => &mut case.file,
-            Area::Book => &mut case.book,
-            Area::Ledger => &mut case.ledger,
-        };
-        bytes.drain(self.from..self.to);
-        case
+    /// The case without these bytes; a file with its lines numbered anew, and as
+    /// they are.
+    fn applied(&self, case: &Case) -> Vec<Case> {
+        let mut smaller = case.clone();
+        match self.area {
+            Area::Book => drop(smaller.book.drain(self.from..self.to)),
+            Area::Ledger => drop(smaller.ledger.drain(self.from..self.to)),
+            Area::File => {
+                smaller.file.drain(self.from..self.to);
+                let file = renumbered(&smaller.file);
+                return vec![
+                    Case {
+                        file,
+                        ..smaller.clone()
+                    },
+                    smaller,
+                ];
+            }
+        }
+        vec![smaller]
     }
+}
+
+/// The file with the place of each numbered record in its field 2.
+fn renumbered(file: &[u8]) -> Vec<u8> {
+    let mut place = 0;
+    let mut bytes = Vec::with_capacity(file.len());
+    for line in file.split_inclusive(|&byte| byte == b'\n') {
+        let kind = line.get(..3).unwrap_or_default();
+        let second = line.get(3..).unwrap_or_default();
+        let end = second.iter().position(|&byte| byte == b'|');
+        match (
+            [b"IP|", b"II|", b"IE|", b"IN|", b"IA|"]
+                .iter()
+                .any(|name| kind == *name),
+            end,
+        ) {
+            (true, Some(end)) => {
+                place += 1;
+                bytes.extend_from_slice(kind);
+                bytes.extend_from_slice(place.to_string().as_bytes());
+                bytes.extend_from_slice(&second[end..]);
+            }
+            _ => bytes.extend_from_slice(line),
+        }
+    }
+    bytes
 }
 
 fn cuts(case: &Case) -> Vec<Cut> {

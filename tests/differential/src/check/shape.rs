@@ -98,7 +98,10 @@ pub fn read(file: &[u8]) -> Result<Vec<Record<'_>>, Fault> {
 fn read_line(bytes: &[u8], before: Option<Kind>) -> Result<(Kind, &[u8]), u32> {
     let text = bytes.strip_suffix(b"\n").ok_or(1u32)?;
     let text = text.strip_suffix(b"\r").unwrap_or(text);
-    if !text.iter().all(|byte| (32..=126).contains(byte)) {
+    if !text
+        .iter()
+        .fold(true, |all, byte| all & (32..=126).contains(byte))
+    {
         return Err(2);
     }
     if text.last() != Some(&b'|') {

@@ -64,6 +64,13 @@ fn whole(year: u32, month: u32, day: u32) -> u32 {
     year * 10_000 + month * 100 + day
 }
 
+pub fn is_real(date: u32) -> bool {
+    let (year, month, day) = parts(date);
+    (FIRST..=LAST).contains(&date)
+        && (1..=12).contains(&month)
+        && (1..=length(year, month)).contains(&day)
+}
+
 pub fn day_after(date: u32) -> u32 {
     match parts(date) {
         _ if date >= LAST => LAST,

@@ -4,7 +4,7 @@
 use super::calendar;
 use super::submission::{antigen_count, get, is, is_numbered, relax, renumber, set, Line};
 use super::submission::{PLAIN_METHODS, PLAIN_SITES};
-use super::world::{event, Text, World};
+use super::world::{event, Entry, Text, World};
 use crate::random::Random;
 
 pub struct Draft {
@@ -285,7 +285,7 @@ fn borrowed(random: &mut Random, draft: &Draft, place: usize, field: usize) -> T
 
 /// Damage that aims at a rule.
 pub fn damage_by_rule(random: &mut Random, draft: &mut Draft) {
-    const AIMS: [fn(&mut Random, &mut Draft); 20] = [
+    const AIMS: [fn(&mut Random, &mut Draft); 23] = [
         wrong_number,
         other_uli,
         wrong_date,
@@ -296,7 +296,10 @@ pub fn damage_by_rule(random: &mut Random, draft: &mut Draft) {
         site_with_method,
         half_empty,
         no_longer_relaxed,
+        nearly_relaxed,
+        no_pair_and_no_date,
         antigen_again,
+        counts_of_a_block,
         other_count,
         other_antigens,
         lot_again,
@@ -410,18 +413,53 @@ fn swapped_case(text: &[u8]) -> Text {
         .collect()
 }
 
-/// An entry ends before a day of the case, or starts after it.
+/// A code of the file, or its pair, ends before or on its day, or starts after it.
 fn end_a_code(random: &mut Random, draft: &mut Draft) {
-    if draft.world.book.is_empty() {
+    const FIELDS: [(&str, usize); 7] = [
+        ("II", 8),
+        ("II", 11),
+        ("II", 13),
+        ("II", 14),
+        ("IE", 4),
+        ("IN", 6),
+        ("IA", 4),
+    ];
+    let (kind, field) = *random.pick(&FIELDS);
+    let Some(place) = place_of(random, draft, kind) else {
         return;
+    };
+    let day = day_of(draft, place);
+    let code = get(&draft.lines[place], field).to_vec();
+    let entry_kind = code_kind(&draft.lines[place], field);
+    let with_pairs = random.percent(30);
+    let is_it = |entry: &&mut Entry| {
+        let alone = Some(entry.kind) == entry_kind && entry.codes[0] == code;
+        alone || (with_pairs && entry.codes.get(1) == Some(&code))
+    };
+    let entries: Vec<&mut Entry> = draft.world.book.iter_mut().filter(is_it).collect();
+    for entry in entries {
+        match (entry.start, random.below(4)) {
+            (Some(_), 0) => entry.start = Some(calendar::day_after(day)),
+            (_, 1) => entry.end = day,
+            _ => entry.end = calendar::day_before(day),
+        }
     }
-    let day = *random.pick(&draft.world.days);
-    let place = random.below(draft.world.book.len());
-    let entry = &mut draft.world.book[place];
-    match (entry.start, random.below(3)) {
-        (Some(_), 0) => entry.start = Some(calendar::day_after(day)),
-        (_, 1) => entry.end = day,
-        _ => entry.end = calendar::day_before(day),
+}
+
+/// The day of the record that a line belongs to, or some day.
+fn day_of(draft: &Draft, place: usize) -> u32 {
+    let head = (0..=place)
+        .rev()
+        .find(|&head| !is(&draft.lines[head], "IE") && !is(&draft.lines[head], "IA"));
+    let line = &draft.lines[head.unwrap_or(place)];
+    let field = if is(line, "II") { 6 } else { 5 };
+    let day = String::from_utf8_lossy(get(line, field))
+        .parse()
+        .unwrap_or(0);
+    if calendar::is_real(day) {
+        day
+    } else {
+        draft.world.days[0]
     }
 }
 
@@ -487,11 +525,71 @@ fn no_longer_relaxed(random: &mut Random, draft: &mut Draft) {
     }
 }
 
+/// What is near to one of the four ways to a relaxed event, with a field empty.
+fn nearly_relaxed(random: &mut Random, draft: &mut Draft) {
+    const NEAR: [(usize, &str); 8] = [
+        (5, "h"),
+        (5, " "),
+        (5, "HH"),
+        (5, "A"),
+        (18, "AB"),
+        (18, "AB"),
+        (18, ""),
+        (20, ""),
+    ];
+    if let Some(place) = place_of(random, draft, "II") {
+        let line = &mut draft.lines[place];
+        [5, 18, 19, 20]
+            .iter()
+            .for_each(|&field| set(line, field, ""));
+        let (field, text) = *random.pick(&NEAR);
+        set(line, field, text);
+        if text == "AB" {
+            set(line, 19, random.pick(&["CA", "", "US"]));
+        }
+        set(line, random.between(9, 15), "");
+    }
+}
+
+/// An II without a sound date whose pairs are not all in the book, or have ended.
+fn no_pair_and_no_date(random: &mut Random, draft: &mut Draft) {
+    if let Some(place) = place_of(random, draft, "II") {
+        set(
+            &mut draft.lines[place],
+            6,
+            random.pick(&calendar::NOT_DATES),
+        );
+        let vaccine = get(&draft.lines[place], 8).to_vec();
+        let is_its_pair = |entry: &Entry| entry.kind >= 7 && entry.codes[0] == vaccine;
+        if random.percent(50) {
+            draft
+                .world
+                .book
+                .retain(|entry| !is_its_pair(entry) || random.percent(50));
+        } else {
+            let pairs = draft
+                .world
+                .book
+                .iter_mut()
+                .filter(|entry| is_its_pair(entry));
+            pairs.for_each(|entry| entry.end = calendar::FIRST);
+        }
+    }
+}
+
+/// An IE again in its II, perhaps with another count or an antigen unknown.
 fn antigen_again(random: &mut Random, draft: &mut Draft) {
     if let Some(place) = place_of(random, draft, "IE") {
+        if random.percent(20) {
+            set(
+                &mut draft.lines[place],
+                4,
+                random.pick(&["UNKNOWN", "?", "TEST A"]),
+            );
+        }
         let mut line = draft.lines[place].clone();
-        if random.percent(30) {
-            set(&mut line, 5, random.pick(&["1", "2", "01"]));
+        if random.percent(50) {
+            set(&mut line, 5, random.pick(&["1", "2", "01", "0", "x", ""]));
         }
         let first = (0..place)
             .rev()
@@ -501,6 +599,30 @@ fn antigen_again(random: &mut Random, draft: &mut Draft) {
         draft.lines.insert(random.between(first + 1, end), line);
         mostly_renumber(random, draft);
     }
+}
+
+/// A block of three II or more with counts of all makes.
+fn counts_of_a_block(random: &mut Random, draft: &mut Draft) {
+    let Some(place) = place_of(random, draft, "II") else {
+        return;
+    };
+    let end = group_end(draft, place);
+    let mut copies = Vec::new();
+    for copy in 0..2 {
+        let mut group = draft.lines[place..end].to_vec();
+        set(&mut group[0], 15, format!("C{copy}"));
+        copies.extend(group);
+    }
+    draft.lines.splice(end..end, copies);
+    for line in draft.lines[place..end + 2 * (end - place)]
+        .iter_mut()
+        .filter(|line| is(line, "IE"))
+    {
+        if random.percent(40) {
+            set(line, 5, random.pick(&["1", "01", "2", "02", "0", "x"]));
+        }
+    }
+    mostly_renumber(random, draft);
 }
 
 fn other_count(random: &mut Random, draft: &mut Draft) {
@@ -594,10 +716,8 @@ fn alter_ledger(random: &mut Random, draft: &mut Draft) {
     let Some(place) = place_of(random, draft, "II") else {
         return;
     };
+    let day = day_of(draft, place);
     let line = &draft.lines[place];
-    let day: u32 = String::from_utf8_lossy(get(line, 6))
-        .parse()
-        .unwrap_or(20000101);
     if get(line, 3).len() == 9 && get(line, 8).len() <= 20 {
         let named = event(get(line, 3), day, get(line, 8));
         match draft.world.live.iter().position(|live| *live == named) {

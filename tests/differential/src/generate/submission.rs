@@ -81,7 +81,7 @@ impl Writer<'_> {
     fn write(&mut self, random: &mut Random) {
         self.push_version();
         self.push_header(random);
-        for _ in 0..count(random, self.size.patients, 12) {
+        for _ in 0..count(random, self.size.patients, 4) {
             self.push_patient(random);
         }
         self.push_footer(random);
