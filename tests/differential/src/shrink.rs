@@ -3,12 +3,13 @@
 use crate::case::Case;
 use crate::check::book;
 use crate::check::ledger::SLOT_WIDTH;
+use std::time::{Duration, Instant};
 
 /// Whether each of these cases still has the property.
 pub type Property<'a> = dyn Fn(&[Case]) -> Vec<bool> + 'a;
 
-/// How often the property is asked at most, and of how much at once.
-const MOST_QUESTIONS: usize = 400;
+/// How long the property is asked at most, and of how much at once.
+const MOST_TIME: Duration = Duration::from_secs(60);
 const QUESTION_CASES: usize = 200;
 const QUESTION_BYTES: usize = 8_000_000;
 
@@ -20,25 +21,24 @@ const MOST_RUNS: usize = 256;
 const MOST_FOR_FIELDS: usize = 20_000;
 
 /// Drops lines, entries and slots, and empties fields, until nothing more can
-/// go or enough has been asked.
+/// go or the time is over.
 pub fn shrink(case: &Case, property: &Property) -> Case {
     let mut case = case.clone();
-    let mut questions = MOST_QUESTIONS;
-    while let Some(smaller) = step(&case, property, &mut questions) {
+    let end = Instant::now() + MOST_TIME;
+    while let Some(smaller) = step(&case, property, end) {
         case = smaller;
     }
     case
 }
 
 /// The first smaller case that has the property.
-fn step(case: &Case, property: &Property, questions: &mut usize) -> Option<Case> {
+fn step(case: &Case, property: &Property, end: Instant) -> Option<Case> {
     let mut cuts = cuts(case).into_iter();
-    while *questions > 0 {
+    while Instant::now() < end {
         let mut cases = some_cases(case, &mut cuts);
         if cases.is_empty() {
             return None;
         }
-        *questions -= 1;
         if let Some(place) = property(&cases).iter().position(|&holds| holds) {
             return Some(cases.swap_remove(place));
         }
