@@ -77,6 +77,17 @@ impl Coverage {
         }
     }
 
+    /// The answers, causes and triples that no case reached.
+    pub fn missing(&self) -> Vec<String> {
+        let answers = (0..8).filter(|&answer| self.answers[answer] == 0);
+        let causes = (1..8).filter(|&cause| self.causes[cause] == 0);
+        let triples = possible().filter(|triple| !self.triples.contains_key(triple));
+        let mut missing: Vec<String> = answers.map(|answer| format!("answer {answer}")).collect();
+        missing.extend(causes.map(|cause| format!("cause {cause}")));
+        missing.extend(triples.map(named));
+        missing
+    }
+
     pub fn print(&self) {
         println!("answers: {}", counts(&self.answers, 0));
         println!("causes: {}", counts(&self.causes, 1));
@@ -84,7 +95,7 @@ impl Coverage {
         for triple in possible() {
             let count = self.triples.get(&triple).copied().unwrap_or(0);
             reached += usize::from(count > 0);
-            println!("{:?} {} rule {}: {count}", triple.0, triple.1, triple.2);
+            println!("{}: {count}", named(triple));
         }
         println!("{reached} of {} triples reached", possible().count());
         for triple in self
@@ -92,9 +103,13 @@ impl Coverage {
             .keys()
             .filter(|&&triple| possible().all(|other| other != triple))
         {
-            println!("impossible by document 01: {triple:?}");
+            println!("impossible by document 01: {}", named(*triple));
         }
     }
+}
+
+fn named((kind, field, rule): Triple) -> String {
+    format!("{kind:?} {field} rule {rule}")
 }
 
 /// The triples of a case, each once.

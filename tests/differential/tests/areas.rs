@@ -4,6 +4,7 @@
 use differential::case::{fnv_1a, Case, Verdict};
 use differential::check::{ACCEPTED, BOOK, DATE, FINDINGS, LEDGER, LONG, SHAPE};
 use differential::coverage::possible;
+use differential::driver::Run;
 use differential::generate::{self, BOOK_MOST, FILE_MOST, SLOT, SLOTS_MOST};
 use differential::random::Random;
 use differential::shrink::shrink;
@@ -121,8 +122,12 @@ fn a_line_gives_back_its_verdict() {
 }
 
 #[test]
-fn there_are_110_triples() {
+fn cases_reach_every_answer_cause_and_triple() {
     assert_eq!(possible().count(), 110);
+    let mut run = Run::new(20);
+    run.by_itself(20_000);
+    assert_eq!((run.passed, run.failed), (20_000, 0));
+    assert_eq!(run.coverage.missing(), Vec::<String>::new());
 }
 
 #[test]
