@@ -1,0 +1,145 @@
+//! What the cases of a run reach: answers, causes, and (kind, field, rule)
+//! triples.
+
+use crate::case::{Case, Outcome};
+use crate::check::shape::Kind;
+use crate::check::{self, Finding};
+use std::collections::BTreeMap;
+
+pub type Triple = (Kind, u8, u8);
+
+#[derive(Default)]
+pub struct Coverage {
+    answers: [usize; 8],
+    causes: [usize; 8],
+    triples: BTreeMap<Triple, usize>,
+}
+
+/// The rules that document 01 allows at each field.
+const POSSIBLE: [(Kind, u8, &[u8]); 35] = [
+    (Kind::IV, 2, &[1, 3]),
+    (Kind::IH, 2, &[1, 2]),
+    (Kind::IH, 3, &[1, 2]),
+    (Kind::IP, 2, &[1, 2, 7]),
+    (Kind::IP, 3, &[1, 2]),
+    (Kind::IP, 25, &[1, 2, 8]),
+    (Kind::II, 2, &[1, 2, 7]),
+    (Kind::II, 3, &[1, 2, 6]),
+    (Kind::II, 4, &[1, 2, 16, 17, 18]),
+    (Kind::II, 5, &[2]),
+    (Kind::II, 6, &[1, 2, 8]),
+    (Kind::II, 8, &[1, 2, 4, 5, 13, 15]),
+    (Kind::II, 9, &[1, 2, 4, 9, 10]),
+    (Kind::II, 10, &[1, 2, 4, 9, 10]),
+    (Kind::II, 11, &[1, 2, 4, 5, 11]),
+    (Kind::II, 12, &[1, 2, 10]),
+    (Kind::II, 13, &[1, 2, 4, 5, 10]),
+    (Kind::II, 14, &[1, 2, 4, 5]),
+    (Kind::II, 15, &[1, 2, 14]),
+    (Kind::IE, 2, &[1, 2, 7]),
+    (Kind::IE, 3, &[1, 2, 6]),
+    (Kind::IE, 4, &[1, 2, 4, 5, 11, 12]),
+    (Kind::IE, 5, &[1, 2]),
+    (Kind::IN, 2, &[1, 2, 7]),
+    (Kind::IN, 3, &[1, 2, 6]),
+    (Kind::IN, 4, &[1, 2]),
+    (Kind::IN, 5, &[1, 2, 8]),
+    (Kind::IN, 6, &[1, 2, 4, 5]),
+    (Kind::IN, 7, &[1, 2]),
+    (Kind::IN, 8, &[2]),
+    (Kind::IA, 2, &[1, 2, 7]),
+    (Kind::IA, 3, &[1, 2, 6]),
+    (Kind::IA, 4, &[1, 2, 4, 5]),
+    (Kind::IF, 2, &[1, 2]),
+    (Kind::IF, 3, &[1]),
+];
+
+/// The triples that are possible by document 01.
+pub fn possible() -> impl Iterator<Item = Triple> {
+    POSSIBLE
+        .iter()
+        .flat_map(|&(kind, field, rules)| rules.iter().map(move |&rule| (kind, field, rule)))
+}
+
+impl Coverage {
+    pub fn add(&mut self, case: &Case, outcome: &Outcome) {
+        self.answers[outcome.answer.answer as usize] += 1;
+        self.causes[outcome.answer.cause as usize] += 1;
+        if outcome.answer.answer == check::FINDINGS {
+            self.add_findings(case);
+        }
+    }
+
+    /// Each triple counts once a case.
+    fn add_findings(&mut self, case: &Case) {
+        for triple in triples(case) {
+            *self.triples.entry(triple).or_default() += 1;
+        }
+    }
+
+    /// The answers, causes and triples that no case reached.
+    pub fn missing(&self) -> Vec<String> {
+        let answers = (0..8).filter(|&answer| self.answers[answer] == 0);
+        let causes = (1..8).filter(|&cause| self.causes[cause] == 0);
+        let triples = possible().filter(|triple| !self.triples.contains_key(triple));
+        let mut missing: Vec<String> = answers.map(|answer| format!("answer {answer}")).collect();
+        missing.extend(causes.map(|cause| format!("cause {cause}")));
+        missing.extend(triples.map(named));
+        missing
+    }
+
+    pub fn print(&self) {
+        println!("answers: {}", counts(&self.answers, 0));
+        println!("causes: {}", counts(&self.causes, 1));
+        let mut reached = 0;
+        for triple in possible() {
+            let count = self.triples.get(&triple).copied().unwrap_or(0);
+            reached += usize::from(count > 0);
+            println!("{}: {count}", named(triple));
+        }
+        println!("{reached} of {} triples reached", possible().count());
+        for triple in self
+            .triples
+            .keys()
+            .filter(|&&triple| possible().all(|other| other != triple))
+        {
+            println!("impossible by document 01: {}", named(*triple));
+        }
+    }
+}
+
+fn named((kind, field, rule): Triple) -> String {
+    format!("{kind:?} {field} rule {rule}")
+}
+
+/// The triples of a case, each once.
+pub fn triples(case: &Case) -> Vec<Triple> {
+    let kinds = kinds(&case.file);
+    let findings = check::all_findings(case.today, &case.file, &case.book, &case.ledger);
+    let triple = |finding: &Finding| {
+        (
+            kinds[finding.line as usize - 1],
+            finding.field,
+            finding.rule,
+        )
+    };
+    let mut triples: Vec<Triple> = findings.iter().map(triple).collect();
+    triples.sort_unstable();
+    triples.dedup();
+    triples
+}
+
+/// The record types of the lines of a file of good shape.
+fn kinds(file: &[u8]) -> Vec<Kind> {
+    let lines = file.split_inclusive(|&byte| byte == b'\n');
+    lines
+        .map(|line| Kind::of(&line[..2]).expect("a file of good shape"))
+        .collect()
+}
+
+fn counts(counts: &[usize], first: usize) -> String {
+    let words: Vec<String> = (first..counts.len())
+        .map(|number| format!("{number}: {}", counts[number]))
+        .collect();
+    words.join(", ")
+}

@@ -1,0 +1,225 @@
+//! How the implementation reads what document 01 leaves to its reader.
+
+mod common;
+
+use common::*;
+use differential::check::{all_findings, ACCEPTED};
+
+const START: &str =
+    "IV|7.2|\nIH|10|000001|\nIP|1|123456789|||||SMITH|JOHN||||||||||||||||20150301|||\n";
+const FOOTER: &str = "IF|8|0|\n";
+
+/// File E's patient with other lines.
+fn patient(lines: &[String]) -> String {
+    [START, &lines.concat(), FOOTER].concat()
+}
+
+fn ii(place: usize, changes: &[(&str, &str)]) -> String {
+    let line =
+        format!("II|{place}|123456789|A||20220901||TESTV|LA|IM|50|0.5|ML|GSK|L{place}||||||||\n");
+    changes
+        .iter()
+        .fold(line, |line, (old, new)| line.replacen(old, new, 1))
+}
+
+fn ie(place: usize, antigen: &str, count: &str) -> String {
+    format!("IE|{place}|123456789|{antigen}|{count}|\n")
+}
+
+/// Immunizations with one antigen each.
+fn immunizations(changes: &[&[(&str, &str)]]) -> String {
+    let group = |(place, changes): (usize, &&[(&str, &str)])| {
+        ii(2 * place + 2, changes) + &ie(2 * place + 3, "TESTA", "1")
+    };
+    patient(&changes.iter().enumerate().map(group).collect::<Vec<_>>())
+}
+
+fn found(file: &str) -> Vec<(u32, u8, u8)> {
+    findings(file, &free(9))
+}
+
+#[test]
+fn the_version_is_a_text_and_empty_is_rule_1() {
+    assert_eq!(found("IV||\nIH|1|1|\nIF|0|0|\n"), [(1, 2, 1)]);
+    assert_eq!(found("IV|7.20|\nIH|1|1|\nIF|0|0|\n"), [(1, 2, 3)]);
+}
+
+#[test]
+fn a_missing_line_is_the_fault_of_the_next() {
+    let without_ie = [START, &ii(2, &[]), FOOTER].concat();
+    assert_eq!(outcome(&without_ie, &[]).answer, shape(5, 6));
+    assert_eq!(
+        outcome(&[START, &ii(2, &[])].concat(), &[]).answer,
+        shape(5, 7)
+    );
+    assert_eq!(outcome(&[START, FOOTER].concat(), &[]).answer, shape(4, 6));
+    assert_eq!(outcome("IV|7.2|\r\nIH|1|1|\r\r\n", &[]).answer, shape(2, 2));
+    assert_eq!(outcome("IV|7.2|\r\nIH|1|1|\r", &[]).answer, shape(2, 1));
+    assert_eq!(outcome("IV|7.2|\n\nIH|1|1|\n", &[]).answer, shape(2, 3));
+    assert_eq!(
+        outcome("IV|7.2|\r\nIH|1|1|\r\nIF|0|0|\r\n", &[]).answer,
+        accepted(0, 0, 0)
+    );
+}
+
+#[test]
+fn relaxed_is_asked_of_each_ii() {
+    let file = immunizations(&[&[("||2022", "|H|2022"), ("GSK", "")], &[("GSK", "")]]);
+    assert_eq!(found(&file), [(6, 14, 1)]);
+}
+
+#[test]
+fn rule_9_is_judged_where_a_code_is_unknown() {
+    assert_eq!(
+        found(&immunizations(&[&[("LA|IM", "ZZ|PO")]])),
+        [(4, 9, 4), (4, 9, 9)]
+    );
+    assert_eq!(found(&immunizations(&[&[("LA|IM", "Z1|PO")]])), [(4, 9, 2)]);
+    assert_eq!(
+        found(&immunizations(&[&[("LA|IM", "NO|PO")]])),
+        [(4, 9, 9), (4, 10, 9)]
+    );
+}
+
+#[test]
+fn rule_10_needs_a_sound_partner() {
+    let relaxed = |from, to| immunizations(&[&[("||2022", "|H|2022"), (from, to)]]);
+    assert_eq!(found(&relaxed("LA|IM", "LA|")), [(4, 10, 10)]);
+    assert_eq!(found(&relaxed("LA|IM", "|IM")), [(4, 9, 10)]);
+    assert_eq!(found(&relaxed("LA|IM", "L1|")), [(4, 9, 2)]);
+    assert_eq!(found(&relaxed("0.5|ML", "|ML")), [(4, 12, 10)]);
+    assert_eq!(found(&relaxed("0.5|ML", "0.0|")), [(4, 12, 2)]);
+    assert_eq!(found(&relaxed("LA|IM|50|0.5|ML|GSK|L2", "||||||")), []);
+}
+
+#[test]
+fn an_unsound_lot_or_antigen_is_passed_over() {
+    let unsound = immunizations(&[&[("L2", "L 1")], &[("L4", "L 1")]]);
+    assert_eq!(found(&unsound), [(4, 15, 2), (6, 15, 2)]);
+    let one_relaxed = immunizations(&[&[("L2", "")], &[("||2022", "|H|2022"), ("L4", "")]]);
+    assert_eq!(found(&one_relaxed), [(4, 15, 1)]);
+    let both_relaxed = immunizations(&[
+        &[("||2022", "|H|2022"), ("L2", "")],
+        &[("||2022", "|H|2022"), ("L4", "")],
+    ]);
+    assert_eq!(found(&both_relaxed), [(6, 15, 14)]);
+    let antigens = patient(&[
+        ii(2, &[]),
+        ie(3, "T A", "1"),
+        ie(4, "T A", "1"),
+        ie(5, "TESTA", "1"),
+    ]);
+    assert_eq!(found(&antigens), [(5, 4, 2), (6, 4, 2)]);
+}
+
+#[test]
+fn an_ii_in_no_block_ends_the_run() {
+    let file = immunizations(&[&[], &[("|A|", "|X|"), ("L4", "L2")], &[("L6", "L2")]]);
+    assert_eq!(found(&file), [(6, 4, 2), (8, 8, 15)]);
+}
+
+#[test]
+fn antigens_with_counts_are_sets() {
+    let twice = [
+        ii(2, &[]),
+        ie(3, "TESTA", "1"),
+        ie(4, "TESTA", "01"),
+        ii(5, &[]),
+        ie(6, "TESTA", "1"),
+    ];
+    assert_eq!(found(&patient(&twice)), [(6, 4, 12)]);
+    let two_counts = [
+        ii(2, &[]),
+        ie(3, "TESTA", "1"),
+        ie(4, "TESTA", "2"),
+        ii(5, &[]),
+        ie(6, "TESTA", "1"),
+    ];
+    assert_eq!(found(&patient(&two_counts)), [(6, 4, 12), (7, 8, 13)]);
+    let unsound = [
+        ii(2, &[]),
+        ie(3, "TESTA", "0"),
+        ii(4, &[]),
+        ie(5, "TESTA", "2"),
+        ii(6, &[]),
+        ie(7, "TESTA", "1"),
+    ];
+    assert_eq!(found(&patient(&unsound)), [(5, 5, 2)]);
+}
+
+#[test]
+fn a_date_that_rule_8_refuses_is_sound() {
+    let before_start = immunizations(&[&[("20220901", "19991231")]]);
+    assert_eq!(found(&before_start), [(4, 6, 8), (4, 8, 5)]);
+    let lent = live("123456789", "20221001", "TESTV");
+    assert_eq!(
+        findings(&immunizations(&[&[("20220901", "20221001")]]), &lent),
+        [(4, 4, 16), (4, 6, 8)]
+    );
+}
+
+#[test]
+fn rule_11_without_a_sound_date_asks_only_for_absence() {
+    let mut book = book_e();
+    let pair = book.len() - 49 - 31;
+    let file = immunizations(&[&[("20220901", "20220931")]]);
+    let list = |book: &[u8]| all_findings(20220930, file.as_bytes(), book, &[]).len();
+    assert_eq!(list(&book), 1);
+    book[pair + 23..pair + 31].copy_from_slice(b"18000101");
+    assert_eq!(list(&book), 1);
+    book.drain(pair..pair + 31);
+    assert_eq!(list(&book), 2);
+}
+
+#[test]
+fn numbers_are_compared_as_numbers() {
+    let zeros = immunizations(&[&[("II|2|", "II|00002|")]]);
+    assert_eq!(outcome(&zeros, &free(1)).answer, accepted(1, 0, 0));
+    assert_eq!(found(&immunizations(&[&[("II|2|", "II|1|")]])), [(4, 2, 7)]);
+    assert_eq!(
+        found(&immunizations(&[&[("II|2|", "II|000002|")]])),
+        [(4, 2, 2)]
+    );
+}
+
+#[test]
+fn case_counts_and_a_blank_is_not_empty() {
+    assert_eq!(found(&immunizations(&[&[("|LA|", "|la|")]])), [(4, 9, 4)]);
+    assert_eq!(
+        found(&immunizations(&[&[("|GSK|", "|gsk|")]])),
+        [(4, 14, 4)]
+    );
+    assert_eq!(
+        found(&immunizations(&[&[("||2022", "| |2022")]])),
+        [(4, 5, 2)]
+    );
+    assert_eq!(found("IV|7.2|\nIH|aZ0|zA9|\nIF|0| |\n"), []);
+    assert_eq!(outcome("IV |7.2|\n", &[]).answer, shape(1, 4));
+}
+
+#[test]
+fn a_pair_needs_no_entries_and_codes_are_any_bytes() {
+    let mut case = case("IV|7.2|\nIH|1|1|\nIF|0|0|\n", &[]);
+    case.book = format!("\x04~!1{OPEN}\x05#  {{{OPEN}", OPEN = 99999999).into_bytes();
+    assert_ne!(case.outcome().answer.answer, ACCEPTED);
+    case.book = format!(
+        "\x04~!1{OPEN}\x05#{{  {OPEN}\x07{:20}00{OPEN}",
+        "|",
+        OPEN = 99999999
+    )
+    .into_bytes();
+    assert_eq!(case.outcome().answer, accepted(0, 0, 0));
+}
+
+#[test]
+fn all_in_lines_count() {
+    let lines = [
+        "IN|2|123456789|D|20220901|REF|1||\nIA|3|123456789|TESTA|\n".to_string(),
+        "IN|4|123456789|A|20220901|REF|1||\nIA|5|123456789|TESTA|\n".to_string(),
+    ];
+    let mut case = case(&patient(&lines), &[]);
+    assert_eq!(findings(&patient(&lines), &[]), [(4, 6, 4), (6, 6, 4)]);
+    let place = case.book.len() - 49 - 31;
+    case.book.splice(place..place, *b"\x06REF99999999");
+    assert_eq!(case.outcome().answer.not_immunized, 2);
+}
