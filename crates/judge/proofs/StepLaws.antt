@@ -74,7 +74,7 @@ module _ (file : Text) (at : ℕ) (st : State) (h : Holds file at st) (q : LineA
   kind-of j = kind-is (part file at (q .end)) k j ki
 
   ended-step : q .next < length file → whole (take (q .next) file) ≡ true
-  ended-step m = whole-step file at q e less (ended-inside file at q e less m) (h .ended less)
+  ended-step m = whole-step file at q e (ended-inside file at q e m) (h .ended less)
 
   numbered-is : isNumbered L ≡ within IP IA k
   unfolding isNumbered recOf

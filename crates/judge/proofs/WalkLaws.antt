@@ -46,7 +46,7 @@ module _ (s : Text) (at : ℕ) (q : LineAt) (e : LineIs s at q) (h : at < length
   recs-next p k = go (ltb (q .next) (length s)) refl
     where
       go : (t : Bool) → ltb (q .next) (length s) ≡ t → recs (part s p (q .next)) ≡ recs (part s p at) ++ (recOf (part s at (q .end)) ∷ [])
-      go true m = recs-step s at q e h (ended-inside s at q e h (ltb-true _ _ m)) w p k
+      go true m = recs-step s at q e (ended-inside s at q e (ltb-true _ _ m)) w p k
       go false m =
           let n : length (drop at s) ≤ q .next - at = omega (arith, ltb-false (q .next) (length s) m, length-drop at s) in
           let o : at ≤ q .next = omega (arith, e .from, e .on) in

@@ -183,7 +183,7 @@ pub own-start : (file : Text) (from : ℕ) → front (isKind IE) (recs (drop fro
 own-start file from = rw (no-recs file from)
 
 pub own-whole : (file : Text) (at : ℕ) (q : LineAt) → LineIs file at q → at < length file → (at < length file → whole (take at file) ≡ true) → q .next < length file → whole (take (q .next) file) ≡ true
-own-whole file at q e h w m = whole-step file at q e h (ended-inside file at q e h m) (w h)
+own-whole file at q e h w m = whole-step file at q e (ended-inside file at q e m) (w h)
 
 pub ruleset for-ie-end = (needs, own-end, own-stop, own-on, own-start, own-whole, left-falls)
 
