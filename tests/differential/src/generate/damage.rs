@@ -285,7 +285,7 @@ fn borrowed(random: &mut Random, draft: &Draft, place: usize, field: usize) -> T
 
 /// Damage that aims at a rule.
 pub fn damage_by_rule(random: &mut Random, draft: &mut Draft) {
-    const AIMS: [fn(&mut Random, &mut Draft); 23] = [
+    const AIMS: [fn(&mut Random, &mut Draft); 24] = [
         wrong_number,
         other_uli,
         wrong_date,
@@ -309,6 +309,7 @@ pub fn damage_by_rule(random: &mut Random, draft: &mut Draft) {
         unsound_between,
         patient_between,
         field_of_block,
+        length_at_its_limit,
     ];
     let aim = *random.pick(&AIMS);
     aim(random, draft);
@@ -783,6 +784,36 @@ fn field_of_block(random: &mut Random, draft: &mut Draft) {
             6 => random.pick(&draft.world.days).to_string().into_bytes(),
             _ => draft.world.any_code(random, 1),
         };
+        set(&mut draft.lines[place], field, text);
+    }
+}
+
+/// A text as long as its form allows, or one byte longer.
+fn length_at_its_limit(random: &mut Random, draft: &mut Draft) {
+    const LIMITS: [(&str, usize, usize, u8); 16] = [
+        ("II", 8, 20, b'~'),
+        ("II", 9, 4, b'L'),
+        ("II", 10, 3, b'z'),
+        ("II", 11, 2, b'5'),
+        ("II", 12, 6, b'9'),
+        ("II", 13, 4, b'U'),
+        ("II", 14, 3, b'g'),
+        ("II", 15, 20, b'-'),
+        ("IE", 4, 20, b'!'),
+        ("IE", 5, 2, b'9'),
+        ("IN", 6, 3, b'Z'),
+        ("IN", 7, 4, b'0'),
+        ("IN", 8, 2, b'a'),
+        ("IH", 2, 3, b'0'),
+        ("IH", 3, 10, b'A'),
+        ("IF", 2, 10, b'9'),
+    ];
+    let (kind, field, most, byte) = *random.pick(&LIMITS);
+    if let Some(place) = place_of(random, draft, kind) {
+        let mut text = vec![byte; most + random.below(2)];
+        if field == 12 {
+            text.extend(random.pick(&["", ".1", ".01", ".001", "."]).bytes());
+        }
         set(&mut draft.lines[place], field, text);
     }
 }
