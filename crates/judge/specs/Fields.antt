@@ -3,11 +3,11 @@
 use Prim.Native.Nat.{ℕ}
 use mathlib.Core.Path.{_≡_}
 use mathlib.Core.Bool.{Bool, true, not, cond, _&&_, _||_}
-use mathlib.Core.List.{List, []}
+use mathlib.Core.List.{List, [], reverse}
 use lib.ListN.{drop}
-use Rattle.house.specs.Text.{Text, any, same, isEmpty}
+use Rattle.house.specs.Text.{Text, any, those, same, isEmpty}
 use Rattle.lines.specs.Lines.{fieldOf}
-use Rattle.lines.specs.Records.{Rec, IE, recOf, recs}
+use Rattle.lines.specs.Records.{Rec, II, IE, isKind, recOf, recs}
 use Rattle.book.specs.declared.Sections.{Sections}
 use Rattle.book.specs.Book.{codeText}
 use Rattle.rules.specs.Forms.{text, isSound, isGiven}
@@ -18,6 +18,7 @@ use Rattle.rules.specs.Rules.{sameAntigen, rulesOf, brokenBy}
 use Rattle.forms.specs.Leaves.{lowest}
 use Rattle.judge.specs.declared.Broken.{Broken}
 use Rattle.judge.specs.declared.Day.{Day}
+use Rattle.judge.specs.declared.Facts.{Facts}
 use Rattle.judge.specs.Look.{knownBy, forceBy}
 
 abbrev pub broken : ℕ → ℕ → ℕ → Broken
@@ -69,3 +70,14 @@ pub record Looks (today : ℕ) (book : Text) (q : Sections) (s : Setting) : Type
   pub today-is : s .today ≡ today
   pub known-is : s .known ≡ knownBy book q
   pub force-is : s .in-force ≡ forceBy book q
+
+-- what an II shows of its block: the earlier II lines of it, its own IE lines, and those of its first II
+pub record Blocked (facts : Facts) (line block own first : Text) (v : Seen) : Type 0 where
+  pub head-is : v .head ≡ recOf line
+  pub inb-is : v .in-block ≡ facts .inb
+  pub joined-is : v .not-first ≡ facts .joined
+  pub block-is : v .block ≡ reverse (those (isKind II) (recs block))
+  pub own-is : v .own ≡ recs own
+  pub first-is : v .first ≡ reverse (recs first)
+  pub repeated-is : v .repeated ≡ facts .repeated
+  pub live-is : v .live ≡ facts .live

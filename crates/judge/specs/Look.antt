@@ -1,5 +1,5 @@
--- Working definitions: what a file is judged by, as look-ups in a book of any bytes and sections say it. No public contract rests on this
--- page.
+-- What a file is judged by, as look-ups by halving in a book of any bytes and sections say it. Of a book that is well formed they say what
+-- it lists (proofs/SettingLaws).
 -- Assumes nothing.
 use Prim.Native.Nat.{ℕ}
 use mathlib.Core.Bool.{Bool, true, false, cond, _&&_}

@@ -47,3 +47,22 @@ pub struct Day {
     pub sound: bool,
     pub number: u32,
 }
+
+// What is known of an II: whether it is in a block, whether it joins the open one, whether an earlier block names its event, and whether
+// its event is live.
+pub struct Facts {
+    pub inb: bool,
+    pub joined: bool,
+    pub repeated: bool,
+    pub live: bool,
+}
+
+// How many blocks, findings and IN records a file has; or the file is too long, or its blocks are too many, for the room lent.
+pub enum Judged {
+    Done {
+        blocks: usize,
+        findings: usize,
+        declined: usize,
+    },
+    TooMany,
+}
