@@ -17,3 +17,5 @@ mod WalkNeeds
 mod FieldNeeds
 mod LaterNeeds
 mod HeadNeeds
+mod LineNeeds
+mod PassNeeds

@@ -5,9 +5,10 @@ use mathlib.Core.Path.{_≡_}
 use mathlib.Core.Bool.{Bool, true, not, cond, _&&_, _||_}
 use mathlib.Core.List.{List, [], reverse}
 use lib.ListN.{drop}
-use Rattle.house.specs.Text.{Text, any, those, same, isEmpty}
+use lib.Dec.{eqb}
+use Rattle.house.specs.Text.{Text, any, those, same, isEmpty, within}
 use Rattle.lines.specs.Lines.{fieldOf}
-use Rattle.lines.specs.Records.{Rec, II, IE, isKind, recOf, recs}
+use Rattle.lines.specs.Records.{Rec, II, IE, IN, IA, isKind, recordOf, recOf, recs}
 use Rattle.book.specs.declared.Sections.{Sections}
 use Rattle.book.specs.Book.{codeText}
 use Rattle.rules.specs.Forms.{text, isSound, isGiven}
@@ -15,7 +16,7 @@ use Rattle.rules.specs.Blocks.{adds, changes, deletes}
 use Rattle.rules.specs.Seen.{Setting, Seen}
 use Rattle.rules.specs.Codes.{dayIsSound, recordDay}
 use Rattle.rules.specs.Rules.{sameAntigen, rulesOf, brokenBy}
-use Rattle.forms.specs.Leaves.{lowest}
+use Rattle.forms.specs.Leaves.{lowest, valueOf}
 use Rattle.judge.specs.declared.Broken.{Broken}
 use Rattle.judge.specs.declared.Day.{Day}
 use Rattle.judge.specs.declared.Facts.{Facts}
@@ -54,6 +55,14 @@ antigenAt line head since book q day =
     broken (codeBy IE (recOf line) 4 2 (fieldOf line 4) book q day) (pairBy IE (recOf line) 4 2 (fieldOf line 4) 8 (recOf head) book q day)
     (cond (isSound IE (recOf line) 4 && any (sameAntigen (recOf line)) (recs since)) 12 0)
 
+-- The day of the record that a line of kind k belongs to: an II's or an IE's of II 6, any other's of IN 5
+
+abbrev pub dayIn : ℕ → Text → ℕ → Day
+dayIn kind head f = record { sound = isSound kind (recOf head) f; number = valueOf (text (recOf head) f) }
+
+unfoldable pub dayBy : ℕ → Text → Day
+dayBy k head = cond (eqb k II) (dayIn II head 6) (cond (eqb k IE) (dayIn II head 6) (dayIn IN head 5))
+
 -- What a function is told of what is seen from a line, and of what the file is judged by
 
 pub record Shows (place : ℕ) (line ip : Text) (v : Seen) : Type 0 where
@@ -81,3 +90,12 @@ pub record Blocked (facts : Facts) (line block own first : Text) (v : Seen) : Ty
   pub first-is : v .first ≡ reverse (recs first)
   pub repeated-is : v .repeated ≡ facts .repeated
   pub live-is : v .live ≡ facts .live
+
+-- all that a line's fields are judged by
+pub record Told (today : ℕ) (book : Text) (q : Sections) (place : ℕ) (line ip head since block own first : Text) (day : Day) (facts : Facts) (s : Setting) (v : Seen) : Type 0 where
+  pub looks : Looks today book q s
+  pub shows : Shows place line ip v
+  pub day-is : within II IA (recordOf line) ≡ true → DayIs day v
+  pub head-is : v .head ≡ recOf head
+  pub antigens-are : v .antigens ≡ reverse (recs since)
+  pub blocked : recordOf line ≡ II → Blocked facts line block own first v

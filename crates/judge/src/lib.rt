@@ -3,6 +3,9 @@ mod codes;
 mod emit;
 mod fields;
 mod later;
+mod line;
+mod look;
+mod pass;
 mod walk;
 
 // Up to three rules that are broken at a field, 0 for none.
@@ -55,6 +58,19 @@ pub struct Facts {
     pub joined: bool,
     pub repeated: bool,
     pub live: bool,
+}
+
+// The walk after a line: where the next one starts, the state there, and how many findings there are so far.
+pub struct Turn {
+    pub at: usize,
+    pub st: State,
+    pub count: usize,
+}
+
+// What a whole walk finds: how many findings, and how many IN records.
+pub struct Walked {
+    pub findings: usize,
+    pub declined: usize,
 }
 
 // How many blocks, findings and IN records a file has; or the file is too long, or its blocks are too many, for the room lent.

@@ -1,0 +1,134 @@
+// The pass over a file: each line judged in turn.
+use crate::BlockAt;
+use crate::Day;
+use crate::Facts;
+use crate::Judged;
+use crate::Span;
+use crate::State;
+use crate::Turn;
+use crate::Walked;
+use crate::line::judge_fields;
+use crate::look::day_of;
+use crate::look::facts_of;
+use crate::walk::advance;
+use crate::walk::block_of;
+use crate::walk::head_at;
+use crate::walk::ie_end;
+use book::Sections;
+use index::Built;
+use lines::LineAt;
+ghost use mathlib.Core.Path.{_≡_};
+ghost use mathlib.Core.Bool.{true};
+ghost use Prim.Native.Nat.{_+_, _*_, _^_, _≤_, _<_};
+ghost use lib.ListN.{length, take, drop};
+ghost use Rattle.house.specs.Text.{count, front};
+ghost use Rattle.lines.specs.Lines.{LineIs, fieldsOf};
+ghost use Rattle.lines.specs.Records.{IE, IN, isKind, recordOf, recs};
+ghost use Rattle.lines.specs.Inside.{part, whole};
+ghost use Rattle.ledger.specs.Ledger.{foundIn};
+ghost use Rattle.rules.specs.Seen.{Setting, Seen};
+ghost use Rattle.rules.specs.Findings.{fieldsFindings, findingsOf};
+ghost use Rattle.index.specs.Firsts.{indexOf, builtIn};
+ghost use Rattle.judge.specs.Inside.{kept, keep};
+ghost use Rattle.judge.specs.Look.{settingBy};
+ghost use Rattle.judge.specs.Fields.{Looks, Told};
+ghost use Rattle.judge.specs.Walk.{partOf, Holds, BlockIs, OwnEnd, Ready, PartsIn, TurnIs, headAt, span, seenWith};
+ghost use Rattle.judge.specs.Judged.{judgedOf, judgedArea};
+
+// Where the IE lines of an II end that start at a position; the position itself for a line of another kind.
+fn own_end(file: &[u8], k: u8, from: usize) -> usize
+    requires { ⌜ from ≤ length (now file) ⌝ }
+    requires { ⌜ (from < length (now file) → whole (take from (now file)) ≡ true) ⌝ }
+    ensures { λ r. ⌜ OwnEnd (now (file .entry)) k from r ⌝ }
+{
+    if k == lines::II {
+        return ie_end(file, from);
+    }
+    from
+}
+
+// Every field of the line from at to end, the others being told where they stand in the file.
+fn judge_parts(
+    file: &[u8],
+    at: usize,
+    l: LineAt,
+    k: u8,
+    st: State,
+    from: usize,
+    head: Span,
+    own: usize,
+    book: &[u8],
+    q: Sections,
+    day: Day,
+    today: u32,
+    facts: Facts,
+    area: &mut [u8],
+    count: usize,
+) -> usize
+    requires { ⌜ PartsIn (now file) at l st from head own ⌝ }
+    requires { ⌜ k ≡ recordOf (part (now file) at (l .end)) ⌝ }
+    requires { ⌜ count + 3 * length (fieldsOf (part (now file) at (l .end))) < 2 ^ 63 ⌝ }
+    ensures { λ r. ⌜ ((s : Setting) (v : Seen) → Told today (now (book .entry)) q (st .place) (part (now (file .entry)) at (l .end)) (partOf (now (file .entry)) (st .ip)) (partOf (now (file .entry)) head) (part (now (file .entry)) (st .since) at) (part (now (file .entry)) from at) (part (now (file .entry)) (l .next) own) (partOf (now (file .entry)) (st .first)) day facts s v → kept r (now (area .exit)) ≡ keep (fieldsFindings s (st .n) v 1 (length (fieldsOf (part (now (file .entry)) at (l .end))))) (kept count (now (area .entry)))) ⌝ }
+    ensures { λ r. ⌜ r ≤ count + 3 * length (fieldsOf (part (now (file .entry)) at (l .end))) ⌝ }
+{
+    let end = l.end;
+    let next = l.next;
+    let ip = st.ip;
+    let is = ip.start;
+    let ie = ip.end;
+    let hs = head.start;
+    let he = head.end;
+    let since = st.since;
+    let first = st.first;
+    let fs = first.start;
+    let fe = first.end;
+    judge_fields(
+        k,
+        &file[at..end],
+        &file[is..ie],
+        &file[hs..he],
+        &file[since..at],
+        &file[from..at],
+        &file[next..own],
+        &file[fs..fe],
+        book,
+        q,
+        st.place,
+        day,
+        today,
+        facts,
+        st.n,
+        area,
+        count,
+    )
+}
+
+// The fields of the line that starts at a position: its findings put to the others.
+fn judge_line(
+    file: &[u8],
+    at: usize,
+    l: LineAt,
+    k: u8,
+    st: State,
+    b: BlockAt,
+    facts: Facts,
+    book: &[u8],
+    q: Sections,
+    today: u32,
+    area: &mut [u8],
+    count: usize,
+) -> usize
+    requires { ⌜ Ready (now file) at l k st b ⌝ }
+    requires { ⌜ count ≤ 3 * at ⌝ }
+    ensures { λ r. ⌜ ((s : Setting) → Looks today (now (book .entry)) q s → kept r (now (area .exit)) ≡ keep (fieldsFindings s (st .n) (seenWith (now (file .entry)) at st (part (now (file .entry)) at (l .end)) (headAt st k (span at (l .end))) (b .from) (front (isKind IE) (recs (drop (l .next) (now (file .entry))))) facts) 1 (length (fieldsOf (part (now (file .entry)) at (l .end))))) (kept count (now (area .entry)))) ⌝ }
+    ensures { λ r. ⌜ r ≤ 3 * l .next ⌝ }
+{
+    let end = l.end;
+    let next = l.next;
+    let head = head_at(st, k, Span { start: at, end });
+    let hs = head.start;
+    let he = head.end;
+    let own = own_end(file, k, next);
+    let day = day_of(k, &file[hs..he]);
+    judge_parts(file, at, l, k, st, b.from, head, own, book, q, day, today, facts, area, count)
+}
