@@ -17,3 +17,4 @@ mod WalkNeeds
 mod FieldNeeds
 mod LaterNeeds
 mod HeadNeeds
+mod VaccineNeeds

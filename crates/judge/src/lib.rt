@@ -3,6 +3,7 @@ mod codes;
 mod emit;
 mod fields;
 mod later;
+mod vaccine;
 mod walk;
 
 // Up to three rules that are broken at a field, 0 for none.
