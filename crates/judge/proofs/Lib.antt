@@ -19,3 +19,4 @@ mod LaterNeeds
 mod HeadNeeds
 mod LineNeeds
 mod PassNeeds
+mod VaccineNeeds

@@ -19,7 +19,7 @@ ghost use Rattle.judge.specs.Inside.{listed};
 ghost use Rattle.judge.specs.Fields.{Shows, DayIs, Looks, antigenAt, laterAt};
 
 // One rule, or none.
-fn one(a: u8) -> Broken
+pub(crate) fn one(a: u8) -> Broken
     ensures { λ r. ⌜ r ≡ record { a = a; b = 0; c = 0 } ⌝ }
 {
     Broken { a, b: 0, c: 0 }

@@ -6,6 +6,7 @@ mod later;
 mod line;
 mod look;
 mod pass;
+mod vaccine;
 mod walk;
 
 // Up to three rules that are broken at a field, 0 for none.
