@@ -19,4 +19,5 @@ mod LaterNeeds
 mod HeadNeeds
 mod LineNeeds
 mod PassNeeds
+mod TurnNeeds
 mod VaccineNeeds

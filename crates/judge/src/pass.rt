@@ -132,3 +132,40 @@ fn judge_line(
     let day = day_of(k, &file[hs..he]);
     judge_parts(file, at, l, k, st, b.from, head, own, book, q, day, today, facts, area, count)
 }
+
+// One line judged, and the state after it.
+fn turn(
+    file: &[u8],
+    at: usize,
+    st: State,
+    index: &[u32],
+    ledger: &[u8],
+    live: usize,
+    book: &[u8],
+    q: Sections,
+    today: u32,
+    area: &mut [u8],
+    count: usize,
+) -> Turn
+    requires { ⌜ Holds (now file) at st ⌝ }
+    requires { ⌜ at < length (now file) ⌝ }
+    requires { ⌜ length (now file) ≤ 5000000 ⌝ }
+    requires { ⌜ now index ≡ indexOf (now file) ⌝ }
+    requires { ⌜ count ≤ 3 * at ⌝ }
+    ensures { λ r. ⌜ TurnIs (settingBy today (now (book .entry)) q (foundIn (now (ledger .entry)) live)) (now (file .entry)) at st count (now (area .entry)) r (now (area .exit)) ⌝ }
+{
+    let l = lines::line_at(file, at);
+    let end = l.end;
+    let next = l.next;
+    let line = &file[at..end];
+    let k = lines::kind_of(line);
+    let b = block_of(file, at, st, line);
+    let facts = facts_of(file, index, ledger, live, line, b);
+    let c = judge_line(file, at, l, k, st, b, facts, book, q, today, area, count);
+    let after = advance(st, k, Span { start: at, end }, next, b);
+    Turn {
+        at: next,
+        st: after,
+        count: c,
+    }
+}
