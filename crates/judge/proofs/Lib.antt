@@ -11,6 +11,7 @@ pub mod Collapse
 pub mod AtLaws
 pub mod RuleLaws
 pub mod LookLaws
+pub mod SettingLaws
 -- What the functions' own needs ask
 mod EmitNeeds
 mod WalkNeeds
