@@ -21,4 +21,5 @@ mod HeadNeeds
 mod LineNeeds
 mod PassNeeds
 mod TurnNeeds
+mod JudgeNeeds
 mod VaccineNeeds

@@ -2,14 +2,16 @@
 -- Assumes nothing.
 use mathlib.Core.Path.{_≡_, refl, sym, ap, _∙_}
 use mathlib.Core.Bool.{Bool, true, false, cond, _&&_}
-use mathlib.Core.List.{List, [], _∷_, reverse}
+use mathlib.Core.List.{List, [], _∷_, reverse, reverse-cons}
 use Prim.Native.Nat.{ℕ, suc, _+_, _-_, _*_, _^_, _≤_, _<_}
 use native.Mathlib.Omega.{arith}
 use borrow.Author.Needs.{needs}
 use lib.Dec.{T, eqb}
 use lib.ListN.{length, take, drop}
+use lib.Seq.{take-all}
 use Rattle.house.specs.Text.{Text, any, front, count}
 use Rattle.house.proofs.Facts.{of-true}
+use Rattle.house.proofs.Members.{count-append}
 use Rattle.lines.specs.declared.LineAt.{LineAt}
 use Rattle.lines.specs.Lines.{LineIs, fieldsOf}
 use Rattle.lines.specs.Records.{Rec, IE, IN, isKind, recordOf, recOf, recs}
@@ -18,7 +20,7 @@ use Rattle.book.specs.declared.Sections.{Sections}
 use Rattle.ledger.specs.Ledger.{Event, foundIn}
 use Rattle.rules.specs.Blocks.{isInBlock, sameEvent, joins, nearestOf, openAfter, eventOf, isRepeated}
 use Rattle.rules.specs.Seen.{Setting, Seen}
-use Rattle.rules.specs.Findings.{fieldsFindings, findingsOf}
+use Rattle.rules.specs.Findings.{Finding, fieldsFindings, findingsOf, areaAfter}
 use Rattle.index.specs.Firsts.{indexOf, foundBefore, namedBefore}
 use Rattle.index.proofs.FindLaws.{found-named}
 use Rattle.index.proofs.StartLaws.{named-upto}
@@ -27,13 +29,15 @@ use Rattle.judge.specs.declared.State.{State}
 use Rattle.judge.specs.declared.BlockAt.{BlockAt}
 use Rattle.judge.specs.declared.Facts.{Facts}
 use Rattle.judge.specs.declared.Turn.{Turn}
-use Rattle.judge.specs.Inside.{kept, keep}
+use Rattle.judge.specs.Inside.{Kept, kept, keep}
 use Rattle.judge.specs.Look.{knownBy, forceBy, settingBy}
-use Rattle.judge.specs.Walk.{partOf, span, linesBefore, Holds, BlockIs, Ready, TurnIs, headAt, seenBy, seenOf, seenWith, factsBy, advanced, restOf}
+use Rattle.judge.specs.Walk.{partOf, span, linesBefore, Holds, BlockIs, Ready, TurnIs, headAt, seenBy, seenOf, seenWith, factsBy, startState, advanced, restOf}
 use Rattle.judge.specs.Fields.{Looks}
+use Rattle.judge.specs.Judged.{findingsBy}
+use Rattle.judge.proofs.KeepLaws.{keep-all}
 use Rattle.judge.proofs.WalkLaws.{inb-is, from-is, repeated-is}
 use Rattle.lines.proofs.LineLaws.{at-past}
-use Rattle.judge.proofs.StepLaws.{holds-step}
+use Rattle.judge.proofs.StepLaws.{holds-start, holds-step, rest-start, rest-end}
 use Rattle.judge.proofs.TurnLaws.{fields-free, turn-goes}
 
 -- turn
@@ -108,3 +112,66 @@ pub turn-fits : (file : Text) (at : ℕ) (st : State) → Holds file at st → a
 turn-fits file at st h l m = (omega (arith, h .n-small), omega (arith, h .place-small), omega (arith, h .ins-small))
 
 pub ruleset for-turn = (needs, ready, turn-is, turn-fits)
+
+-- walk
+count-reverse : {A : Type 0} (p : A → Bool) (xs : List A) → count p (reverse xs) ≡ count p xs
+count-reverse p [] = refl
+count-reverse p (x ∷ xs) = rw (reverse-cons, count-append p (reverse xs) (x ∷ []), count-reverse p xs) (go (p x))
+  where
+    go : (b : Bool) → count p xs + cond b 1 0 ≡ cond b (suc (count p xs)) (count p xs)
+    go true = omega arith
+    go false = omega arith
+
+module _ (s : Setting) (file : Text) (area₀ : Text) where
+  -- what is left of a file's findings, from a line on
+  pub record Walking (at : ℕ) (st : State) (found : ℕ) (area : Text) : Type 0 where
+    pub holds : Holds file at st
+    pub within : at ≤ length file
+    pub few : found ≤ 3 * at
+    pub size : length area ≡ length area₀
+    pub left : keep (findingsOf s file) (kept 0 area₀) ≡ keep (restOf s file at (st .n)) (kept found area)
+
+  pub walk-start : (st : State) → st ≡ startState → Walking 0 st 0 area₀
+  walk-start st e =
+      record {
+        holds = rw e (holds-start file);
+        within = omega arith;
+        few = omega arith;
+        size = refl;
+        left = rw e (ap (λ (xs : List Finding). keep xs (kept 0 area₀)) (rest-start s file));
+      }
+
+  module _ (at : ℕ) (st : State) (found : ℕ) (area : Text) (w : Walking at st found area) where
+    pub walk-on : (t : Turn) (after : Text) → TurnIs s file at st found area t after → length after ≡ length area → Walking (t .at) (t .st) (t .count) after
+    walk-on t after i y =
+        record { holds = i .holds; within = i .upto; few = i .few; size = y ∙ w .size; left = w .left ∙ i .left }
+
+    module _ (h : length file ≤ at) where
+      all-kept : kept found area ≡ kept (length (findingsOf s file)) (areaAfter area₀ (findingsOf s file))
+      unfolding keep
+      all-kept = sym (w .left ∙ ap (λ (xs : List Finding). keep xs (kept found area)) (rest-end s file at (st .n) h)) ∙ keep-all (findingsOf s file) area₀
+
+      pub walk-count : found ≡ length (findingsOf s file)
+      walk-count = ap (λ (k : Kept). k .count) all-kept
+
+      pub walk-area : area ≡ areaAfter area₀ (findingsOf s file)
+      walk-area = ap (λ (k : Kept). k .area) all-kept
+
+      pub walk-ins : st .ins ≡ count (isKind IN) (recs file)
+      unfolding linesBefore
+      walk-ins =
+          w .holds .ins-is
+          ∙ ap (λ (t : Text). count (isKind IN) (reverse (recs t))) (take-all at file h)
+          ∙ count-reverse (isKind IN) (recs file)
+
+pub walk-found : (today : ℕ) (file book : Text) (q : Sections) (ledger : Text) (n : ℕ) (k : ℕ) → k ≡ length (findingsOf (settingBy today book q (foundIn ledger n)) file)
+    → k ≡ length (findingsBy today file book q ledger n)
+unfolding findingsBy
+walk-found today file book q ledger n k e = e
+
+pub walk-left : (today : ℕ) (file book : Text) (q : Sections) (ledger : Text) (n : ℕ) (area after : Text) → after ≡ areaAfter area (findingsOf (settingBy today book q (foundIn ledger n)) file)
+    → after ≡ areaAfter area (findingsBy today file book q ledger n)
+unfolding findingsBy
+walk-left today file book q ledger n area after e = e
+
+pub ruleset for-walk = (needs, walk-start, walk-on, walk-count, walk-area, walk-ins, walk-found, walk-left)

@@ -1,3 +1,5 @@
+-- `judge::pass::turn` meets its contract.
+-- Assumes nothing.
 use Rattle.judge.proofs.TurnNeeds.{for-turn}
 use Rattle.judge.proofs.pass.turn.Statement.{statement}
 use Rattle.judge.proofs.pass.turn.Tie as tie
