@@ -20,7 +20,8 @@ use Rattle.rules.specs.Forms.{text, table, formOf, isJudged, isOptional, isMiss
 use Rattle.rules.specs.Seen.{Setting, Seen}
 use Rattle.rules.specs.Codes.{bookKind, codeRead, codeIn, dayIsSound, recordDay, isInForce}
 use Rattle.rules.specs.Rules.{afterToday, beforeBirth, brokenAt}
-use Rattle.forms.specs.Leaves.{valueOf, lowest, numberLater, numberRule, uliLater, uliRule, dayLater, dayRule, bornAfter, dateLater, dateRule, versionLater, versionRule}
+use Rattle.texts.specs.Leaves.{valueOf}
+use Rattle.forms.specs.Leaves.{lowest, numberLater, numberRule, uliLater, uliRule, dayLater, dayRule, bornAfter, dateLater, dateRule, versionLater, versionRule}
 use Rattle.forms.proofs.FieldLaws.{text-is}
 use Rattle.judge.specs.declared.Broken.{Broken}
 use Rattle.judge.specs.declared.Day.{Day}
@@ -135,23 +136,26 @@ module _ (s : Setting) (v : Seen) (today : ℕ) (book : Text) (q : Sections) (da
       go false e = refl
 
 module _ (x : ℕ) (line : Text) (s : Setting) (v : Seen) (lv : v .line ≡ recOf line)
-    (today : ℕ) (book : Text) (q : Sections) (day : Day) (ls : Looks today book q s) (d : DayIs day v) (k f of : ℕ)
-    (t : Text) (pt : t ≡ fieldOf line f) (ce : codeIn k (v .line) f ≡ codeText of (text (v .line) f) []) where
-  read-same : codeIn k (v .line) f ≡ codeText of t []
-  read-same = ce ∙ ap (λ (u : Text). codeText of u []) (ap (λ (l : Rec). text l f) lv ∙ text-is line f ∙ sym pt)
-
-  pub code-is : x ≡ lowest k (recOf line) f (codeLater (isEmpty (text (recOf line) f)) (knownBy book q of (codeText of t [])) (day .sound && not (forceBy book q (day .number) of (codeText of t []))))
+    (today : ℕ) (book : Text) (q : Sections) (day : Day) (ls : Looks today book q s) (d : DayIs day v) (k f of : ℕ) (t : Text) where
+  pub code-read : codeIn k (v .line) f ≡ codeText of t []
+      → x ≡ lowest k (recOf line) f (codeLater (isEmpty (text (recOf line) f)) (knownBy book q of (codeText of t [])) (day .sound && not (forceBy book q (day .number) of (codeText of t []))))
       → x ≡ lowest k (v .line) f (codeLater (isEmpty (text (v .line) f)) (s .known of (codeIn k (v .line) f)) (dayIsSound v && not (isInForce s v of (codeIn k (v .line) f))))
-  code-is z =
+  code-read re z =
       z
       ∙ ap (λ (l : Rec). lowest k l f (codeLater (isEmpty (text l f)) (knownBy book q of (codeText of t [])) (day .sound && not (forceBy book q (day .number) of (codeText of t []))))) (sym lv)
       ∙ ap (λ (u : Bool). lowest k (v .line) f (codeLater (isEmpty (text (v .line) f)) u (day .sound && not (forceBy book q (day .number) of (codeText of t [])))))
-      (known-same s v today book q day ls d of (codeIn k (v .line) f) (codeText of t []) read-same)
+      (known-same s v today book q day ls d of (codeIn k (v .line) f) (codeText of t []) re)
       ∙ ap (λ (u : Bool). lowest k (v .line) f (codeLater (isEmpty (text (v .line) f)) (s .known of (codeIn k (v .line) f)) u))
-      (force-same s v today book q day ls d of (codeIn k (v .line) f) (codeText of t []) read-same)
+      (force-same s v today book q day ls d of (codeIn k (v .line) f) (codeText of t []) re)
+
+  -- the field's text itself
+  pub code-is : t ≡ fieldOf line f → codeIn k (v .line) f ≡ codeText of (text (v .line) f) []
+      → x ≡ lowest k (recOf line) f (codeLater (isEmpty (text (recOf line) f)) (knownBy book q of (codeText of t [])) (day .sound && not (forceBy book q (day .number) of (codeText of t []))))
+      → x ≡ lowest k (v .line) f (codeLater (isEmpty (text (v .line) f)) (s .known of (codeIn k (v .line) f)) (dayIsSound v && not (isInForce s v of (codeIn k (v .line) f))))
+  code-is pt ce = code-read (ce ∙ ap (λ (u : Text). codeText of u []) (ap (λ (l : Rec). text l f) lv ∙ text-is line f ∙ sym pt))
 
 -- at a field with these rules alone
-code-need : (b : Broken) (x : ℕ) → b ≡ broken x 0 0 → (line : Text) (s : Setting) (v : Seen) → v .line ≡ recOf line → (k f of : ℕ) → recordOf line ≡ k
+pub code-need : (b : Broken) (x : ℕ) → b ≡ broken x 0 0 → (line : Text) (s : Setting) (v : Seen) → v .line ≡ recOf line → (k f of : ℕ) → recordOf line ≡ k
     → x ≡ lowest k (v .line) f (codeLater (isEmpty (text (v .line) f)) (s .known of (codeIn k (v .line) f)) (dayIsSound v && not (isInForce s v of (codeIn k (v .line) f))))
     → laterAt s v f ≡ codes (v .line) k f (s .known of (codeIn k (v .line) f)) (dayIsSound v && not (isInForce s v of (codeIn k (v .line) f))) []
     → listed b ≡ brokenAt s v f
@@ -201,7 +205,7 @@ module _ (b : Broken) (x : ℕ) (p : b ≡ broken x 0 0) (line ip : Text) (s : S
       answer b x _ _ p (z ∙ ap (λ (l : Rec). uliRule k l (recOf ip)) (sym lv) ∙ ap (uliRule k (v .line)) (sym iv))
       (sound-at s v k 3 (kind-at b x p line s v lv k e) (isSound IP (v .ip) 3 && not (same (text (v .line) 3) (text (v .ip) 3))) 6 refl h)
 
-  date-at : (f today : ℕ) → s .today ≡ today → x ≡ dateRule k (recOf line) f today (recOf ip) → (isSound k (v .line) f ≡ true → isDate (text (v .line) f) ≡ true)
+  pub date-at : (f today : ℕ) → s .today ≡ today → x ≡ dateRule k (recOf line) f today (recOf ip) → (isSound k (v .line) f ≡ true → isDate (text (v .line) f) ≡ true)
       → laterAt s v f ≡ sounds (v .line) k f (afterToday s v f || beforeBirth v f) 8 → listed b ≡ brokenAt s v f
   unfolding afterToday beforeBirth bornAfter
   date-at f today tv z i h =

@@ -47,7 +47,7 @@ module _ (s : Setting) (v : Seen) (today : ℕ) (book : Text) (q : Sections) (da
   unfolding codeIn bookKind codeRead
   vaccine-is = ap (λ (h : Rec). codeText 1 (text h 8) []) hv
 
-  pair-is : pairBy k (recOf line) f of t pair (recOf head) book q day
+  pub pair-is : pairBy k (recOf line) f of t pair (recOf head) book q day
       ≡ cond ((isGiven II (v .head) 8 && s .known 1 (codeIn II (v .head) 8)) && (isGiven k (v .line) f && s .known of (codeIn k (v .line) f)) && (not (s .known pair (pairIn v f)) || (dayIsSound v && not (isInForce s v pair (pairIn v f))))) 11 0
   pair-is =
       six 11 _ _ _ _ _ _ _ _ _ _ _ _ (ap (λ (h : Rec). isGiven II h 8) (sym hv)) (known-same s v today book q day ls d 1 (codeIn II (v .head) 8) (codeText 1 (text (recOf head) 8) []) vaccine-is)
@@ -55,10 +55,10 @@ module _ (s : Setting) (v : Seen) (today : ℕ) (book : Text) (q : Sections) (da
       (known-same s v today book q day ls d pair (pairIn v f) (codeText pair (text (recOf head) 8) t) pe)
       (force-same s v today book q day ls d pair (pairIn v f) (codeText pair (text (recOf head) 8) t) pe)
 
-abbrev ruled : ℕ → Bool → ℕ
+abbrev pub ruled : ℕ → Bool → ℕ
 ruled n p = cond p n 0
 
-three-same : (a a2 b b2 c c2 : ℕ) → a ≡ a2 → b ≡ b2 → c ≡ c2 → listed (broken a b c) ≡ listed (broken a2 b2 c2)
+pub three-same : (a a2 b b2 c c2 : ℕ) → a ≡ a2 → b ≡ b2 → c ≡ c2 → listed (broken a b c) ≡ listed (broken a2 b2 c2)
 three-same a a2 b b2 c c2 p q r = rw (p, q, r)
 
 -- IE

@@ -18,3 +18,10 @@ mod WalkNeeds
 mod FieldNeeds
 mod LaterNeeds
 mod HeadNeeds
+mod LineNeeds
+mod PassNeeds
+mod TurnNeeds
+mod JudgeNeeds
+-- No second answer
+mod OneAnswer
+mod VaccineNeeds

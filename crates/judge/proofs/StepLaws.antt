@@ -161,6 +161,16 @@ module _ (file : Text) (at : ℕ) (st : State) (h : Holds file at st) (q : LineA
       go false true = omega (arith, bi .back, on)
       go false false = omega arith
 
+  run-ended : nextRun (st .run) k (b .inb) (b .from) (q .next) < length file → whole (take (nextRun (st .run) k (b .inb) (b .from) (q .next)) file) ≡ true
+  unfolding nextRun
+  run-ended = rw (from-is file at st h (part file at (q .end)) b bi) (go (eqb k IE) (b .inb) (isInBlock L && joins L (nearestOf opens)))
+    where
+      go : (t u v : Bool) → cond t (st .run) (cond u (cond v (st .run) at) (q .next)) < length file → whole (take (cond t (st .run) (cond u (cond v (st .run) at) (q .next))) file) ≡ true
+      go true u v = h .run-ended
+      go false true true = h .run-ended
+      go false true false = h .ended
+      go false false v = ended-step
+
   last-step : SpanIs file (q .next) (nextLast (st .last) k (b .inb) here) (nearestOf (openAfter (linesBefore file (q .next))))
   unfolding nextLast
   last-step = rw open-is (go (eqb k IE) (b .inb))
@@ -242,6 +252,7 @@ module _ (file : Text) (at : ℕ) (st : State) (h : Holds file at st) (q : LineA
         last-is = last-step;
         run-is = run-step;
         run-in = run-in;
+        run-ended = run-ended;
         opened = opened-step;
         many-is = many-step;
         first-is = first-step;
@@ -267,6 +278,7 @@ holds-start file =
       last-is = no-span file 0;
       run-is = refl;
       run-in = omega arith;
+      run-ended = λ m. refl;
       opened = λ z. clash (cc);
       many-is = refl;
       first-is = no-lines file 0;

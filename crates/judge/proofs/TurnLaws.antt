@@ -62,7 +62,7 @@ abbrev pub sameBook : ℕ → ℕ → (ℕ → Text → Bool) → (ℕ → ℕ �
 sameBook profile today known in-force live = record { profile = profile; today = today; known = known; in-force = in-force; live = live }
 
 module _ (p t : ℕ) (kn : ℕ → Text → Bool) (fo : ℕ → ℕ → Text → Bool) (ev other : Event → Bool)
-    (place : ℕ) (line ip head since block own first : Text) (inb joined repeated live alive : Bool) (h : inb ≡ true → live ≡ alive) where
+    (place : ℕ) (line ip head since block : Text) (own : List Rec) (first : Text) (inb joined repeated live alive : Bool) (h : inb ≡ true → live ≡ alive) where
   abbrev seen : Bool → Seen
   seen b = seenBy place line ip head since inb block joined own first repeated b
 
@@ -86,21 +86,21 @@ module _ (p t : ℕ) (kn : ℕ → Text → Bool) (fo : ℕ → ℕ → Text →
 -- THE LINE
 
 module _ (s : Setting) (file : Text) (at : ℕ) (st : State) (h : Holds file at st) (q : LineAt) (e : LineIs file at q) (less : at < length file)
-    (k : ℕ) (ki : k ≡ recordOf (part file at (q .end))) (b : BlockAt) (bi : BlockIs file at st (part file at (q .end)) b) (own : ℕ) (oi : OwnIs file (q .next) own) where
+    (k : ℕ) (ki : k ≡ recordOf (part file at (q .end))) (b : BlockAt) (bi : BlockIs file at st (part file at (q .end)) b) where
   abbrev L : Rec
   L = recOf (part file at (q .end))
 
   -- what is seen from it
   abbrev view : Seen
   view =
-      seenOf file at st (part file at (q .end)) (headAt st k (span at (q .end))) b (span (q .next) own) (isRepeated L (linesBefore file at)) (s .live (eventOf L))
+      seenOf file at st (part file at (q .end)) (headAt st k (span at (q .end))) b (front (isKind IE) (recs (drop (q .next) file))) (isRepeated L (linesBefore file at)) (s .live (eventOf L))
 
   line-findings : lineFindings s (record { number = st .n; before = linesBefore file at; line = L; after = recs (drop (q .next) file) })
       ≡ fieldsFindings s (st .n) view 1 (length (fieldsOf (part file at (q .end))))
   unfolding lineFindings recOf
   line-findings =
       ap (λ (v : Seen). fieldsFindings s (st .n) v 1 (length (fieldsOf (part file at (q .end)))))
-      (seen-is file at st h (part file at (q .end)) b bi s (st .n) k (span at (q .end)) (span (q .next) own) (recs (drop (q .next) file)) ki refl (oi .own-is))
+      (seen-is file at st h (part file at (q .end)) b bi s (st .n) k (span at (q .end)) (recs (drop (q .next) file)) ki refl)
 
   -- its findings put to what was kept, those from the next line on are left
   pub turn-goes : (c d : ℕ) (a z : Text) → kept d z ≡ keep (fieldsFindings s (st .n) view 1 (length (fieldsOf (part file at (q .end))))) (kept c a)

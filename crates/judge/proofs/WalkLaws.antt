@@ -133,9 +133,9 @@ module _ (file : Text) (at : ℕ) (st : State) (h : Holds file at st) (line : Te
       go false true = h .in-is .is
       go false false = ap recOf (sym p)
 
-  pub seen-is : (s : Setting) (n k : ℕ) (here own : Span) (after : List Rec) → k ≡ recordOf line → partOf file here ≡ line → front (isKind IE) after ≡ recs (partOf file own)
+  pub seen-is : (s : Setting) (n k : ℕ) (here : Span) (after : List Rec) → k ≡ recordOf line → partOf file here ≡ line
       → seenAt s (record { number = n; before = linesBefore file at; line = recOf line; after = after })
-      ≡ seenOf file at st line (headAt st k here) b own (isRepeated (recOf line) (linesBefore file at)) (s .live (eventOf (recOf line)))
+      ≡ seenOf file at st line (headAt st k here) b (front (isKind IE) after) (isRepeated (recOf line) (linesBefore file at)) (s .live (eventOf (recOf line)))
   unfolding seenAt seenBy
-  seen-is s n k here own after e p o =
-      rw (← h .place-is, h .ip-is .is, head-is k here e p, h .since-is .are, inb-is, block-is, joined-is, o, h .first-is .are)
+  seen-is s n k here after e p =
+      rw (← h .place-is, h .ip-is .is, head-is k here e p, h .since-is .are, inb-is, block-is, joined-is, h .first-is .are)

@@ -1,21 +1,28 @@
 -- Working definitions: the walk over the lines, and what its state says of the lines before. No public contract rests on this page.
 -- Assumes nothing.
-use Prim.Native.Nat.{ℕ, suc, _+_, _≤_, _<_}
+use Prim.Native.Nat.{ℕ, suc, _+_, _*_, _≤_, _<_}
 use mathlib.Core.Path.{_≡_}
 use mathlib.Core.Bool.{Bool, true, false, cond, _&&_}
 use mathlib.Core.List.{List, reverse}
 use lib.ListN.{length, take, drop}
 use lib.Dec.{eqb}
 use Rattle.house.specs.Text.{Text, those, count, front, isEmpty, within, joined}
-use Rattle.lines.specs.Records.{Rec, IP, II, IE, IN, IA, isKind, recOf, recs}
+use Rattle.lines.specs.declared.LineAt.{LineAt}
+use Rattle.lines.specs.Lines.{LineIs}
+use Rattle.lines.specs.Records.{Rec, IP, II, IE, IN, IA, isKind, recordOf, recOf, recs}
 use Rattle.lines.specs.Inside.{part, whole}
+use Rattle.ledger.specs.Ledger.{foundIn}
+use Rattle.index.specs.Firsts.{foundBefore}
 use Rattle.rules.specs.Places.{Place, placesFrom, nearest, isNumbered}
-use Rattle.rules.specs.Blocks.{isInBlock, joins, nearestOf, openAfter, hasSecond, firstOpen, beforeOpen}
+use Rattle.rules.specs.Blocks.{isInBlock, joins, eventOf, nearestOf, openAfter, hasSecond, firstOpen, beforeOpen}
 use Rattle.rules.specs.Seen.{Setting, Seen}
 use Rattle.rules.specs.Findings.{Finding, lineFindings}
 use Rattle.judge.specs.declared.Span.{Span}
 use Rattle.judge.specs.declared.State.{State}
 use Rattle.judge.specs.declared.BlockAt.{BlockAt}
+use Rattle.judge.specs.declared.Facts.{Facts}
+use Rattle.judge.specs.declared.Turn.{Turn}
+use Rattle.judge.specs.Inside.{kept, keep}
 
 abbrev pub partOf : Text → Span → Text
 partOf s p = part s (p .start) (p .end)
@@ -51,6 +58,7 @@ pub record Holds (file : Text) (at : ℕ) (st : State) : Type 0 where
   pub last-is : SpanIs file at (st .last) (nearestOf (openAfter (linesBefore file at)))
   pub run-is : openAfter (linesBefore file at) ≡ reverse (those (isKind II) (recs (part file (st .run) at)))
   pub run-in : st .run ≤ at
+  pub run-ended : st .run < length file → whole (take (st .run) file) ≡ true
   pub opened : isEmpty (openAfter (linesBefore file at)) ≡ false → beforeOpen (linesBefore file at) ≡ linesBefore file (st .run)
   pub many-is : st .many ≡ hasSecond (linesBefore file at)
   pub first-is : LinesAre file at (st .first) (firstOpen (linesBefore file at))
@@ -95,12 +103,44 @@ pub record OwnIs (file : Text) (from r : ℕ) : Type 0 where
   pub own-from : from ≤ r
   pub own-in : r ≤ length file
 
+-- of a line of kind k: those of an II end at r
+pub record OwnEnd (file : Text) (k from r : ℕ) : Type 0 where
+  pub ii-own : k ≡ II → front (isKind IE) (recs (drop from file)) ≡ recs (part file from r)
+  pub end-from : from ≤ r
+  pub end-in : r ≤ length file
+
+-- a line of kind k starts at a position, the state and its block are what they are there, and the file is not too long
+pub record Ready (file : Text) (at : ℕ) (l : LineAt) (k : ℕ) (st : State) (b : BlockAt) : Type 0 where
+  pub holds : Holds file at st
+  pub line-is : LineIs file at l
+  pub less : at < length file
+  pub kind-is : k ≡ recordOf (part file at (l .end))
+  pub block-is : BlockIs file at st (part file at (l .end)) b
+  pub short : length file ≤ 5000000
+
+-- the parts of the file that a line is judged with lie in it
+pub record PartsIn (file : Text) (at : ℕ) (l : LineAt) (st : State) (from : ℕ) (head : Span) (own : ℕ) : Type 0 where
+  pub line-from : at ≤ l .end
+  pub line-in : l .end ≤ length file
+  pub at-in : at ≤ length file
+  pub next-in : l .next ≤ length file
+  pub ip-from : st .ip .start ≤ st .ip .end
+  pub ip-in : st .ip .end ≤ length file
+  pub head-from : head .start ≤ head .end
+  pub head-in : head .end ≤ length file
+  pub since-from : st .since ≤ at
+  pub block-from : from ≤ at
+  pub own-from : l .next ≤ own
+  pub own-in : own ≤ length file
+  pub first-from : st .first .start ≤ st .first .end
+  pub first-in : st .first .end ≤ length file
+
 -- the record that a line of kind k belongs to
 unfoldable pub headAt : State → ℕ → Span → Span
 headAt st k here = cond (eqb k IE) (st .ii) (cond (eqb k IA) (st .declined) here)
 
 -- what is seen from a line, by the texts around it
-unfoldable pub seenBy : ℕ → Text → Text → Text → Text → Bool → Text → Bool → Text → Text → Bool → Bool → Seen
+unfoldable pub seenBy : ℕ → Text → Text → Text → Text → Bool → Text → Bool → List Rec → Text → Bool → Bool → Seen
 seenBy place line ip head since inb block joined own first repeated live =
     record {
       place = place;
@@ -111,17 +151,33 @@ seenBy place line ip head since inb block joined own first repeated live =
       in-block = inb;
       block = reverse (those (isKind II) (recs block));
       not-first = joined;
-      own = recs own;
+      own = own;
       first = reverse (recs first);
       repeated = repeated;
       live = live;
     }
 
 -- and by the state
-abbrev pub seenOf : Text → ℕ → State → Text → Span → BlockAt → Span → Bool → Bool → Seen
+abbrev pub seenOf : Text → ℕ → State → Text → Span → BlockAt → List Rec → Bool → Bool → Seen
 seenOf file at st line head b own repeated live =
-    seenBy (st .place) line (partOf file (st .ip)) (partOf file head) (part file (st .since) at) (b .inb) (part file (b .from) at) (b .joined)
-    (partOf file own) (partOf file (st .first)) repeated live
+    seenBy (st .place) line (partOf file (st .ip)) (partOf file head) (part file (st .since) at) (b .inb) (part file (b .from) at) (b .joined) own
+    (partOf file (st .first)) repeated live
+
+-- what is known of a line: the index and the ledger are asked of a line in a block alone
+unfoldable pub factsBy : Text → List ℕ → Text → ℕ → Text → BlockAt → Facts
+factsBy file index ledger n line b =
+    record {
+      inb = b .inb;
+      joined = b .joined;
+      repeated = b .inb && foundBefore file index (eventOf (recOf line)) (b .from);
+      live = b .inb && foundIn ledger n (eventOf (recOf line));
+    }
+
+-- what is seen from it, by what is known; `from` is where its block starts
+abbrev pub seenWith : Text → ℕ → State → Text → Span → ℕ → List Rec → Facts → Seen
+seenWith file at st line head from own facts =
+    seenBy (st .place) line (partOf file (st .ip)) (partOf file head) (part file (st .since) at) (facts .inb) (part file from at) (facts .joined) own
+    (partOf file (st .first)) (facts .repeated) (facts .live)
 
 -- The state after a line of kind k that stands at `here`, the next line starting at `next`
 
@@ -169,3 +225,11 @@ advanced st k here next b =
 -- the findings of the lines from a position on, the first of them line n
 unfoldable pub restOf : Setting → Text → ℕ → ℕ → List Finding
 restOf s file at n = joined (lineFindings s) (placesFrom n (linesBefore file at) (recs (drop at file)))
+
+-- one turn of the walk: a line's findings are put to the others, and those from the next line on are left
+pub record TurnIs (s : Setting) (file : Text) (at : ℕ) (st : State) (count : ℕ) (area : Text) (r : Turn) (after : Text) : Type 0 where
+  pub holds : Holds file (r .at) (r .st)
+  pub on : at < r .at
+  pub upto : r .at ≤ length file
+  pub few : r .count ≤ 3 * r .at
+  pub left : keep (restOf s file at (st .n)) (kept count area) ≡ keep (restOf s file (r .at) (r .st .n)) (kept (r .count) after)

@@ -11,18 +11,26 @@ use lines::IN;
 use lines::IP;
 use lines::IV;
 ghost use mathlib.Core.Path.{_≡_};
-ghost use mathlib.Core.List.{reverse};
+ghost use mathlib.Core.List.{[], reverse};
 ghost use Rattle.lines.specs.Records.{recordOf, recOf, recs};
 ghost use Rattle.rules.specs.Seen.{Setting, Seen};
 ghost use Rattle.rules.specs.Rules.{brokenAt};
 ghost use Rattle.judge.specs.Inside.{listed};
-ghost use Rattle.judge.specs.Fields.{Shows, DayIs, Looks, antigenAt};
+ghost use Rattle.judge.specs.Fields.{Shows, DayIs, Looks, antigenAt, laterAt};
 
 // One rule, or none.
-fn one(a: u8) -> Broken
+pub(crate) fn one(a: u8) -> Broken
     ensures { λ r. ⌜ r ≡ record { a = a; b = 0; c = 0 } ⌝ }
 {
     Broken { a, b: 0, c: 0 }
+}
+
+// Field f of a record of a kind that has no later rules.
+pub(crate) fn judge_plain(k: u8, line: &[u8], f: usize) -> Broken
+    requires { ⌜ k ≡ recordOf (now line) ⌝ }
+    ensures { λ r. ⌜ ((s : Setting) (v : Seen) → v .line ≡ recOf (now (line .entry)) → laterAt s v f ≡ [] → listed r ≡ brokenAt s v f) ⌝ }
+{
+    one(forms::basic_rule(k, line, f))
 }
 
 // Field f of an IV.

@@ -1,0 +1,24 @@
+-- `judge::line::judge_field` meets its contract.
+-- Assumes nothing.
+use Rattle.judge.proofs.LineNeeds.{for-judge-field}
+use Rattle.judge.proofs.line.judge_field.Statement.{statement}
+use Rattle.judge.proofs.line.judge_field.Tie as tie
+
+pub judge-field-spec : {M : Type 1} → statement M
+judge-field-spec =
+    tie.close
+    (tie.spec
+    (λ c. search for-judge-field)
+    (λ c. search for-judge-field)
+    (λ c. search for-judge-field)
+    (λ c. search for-judge-field)
+    (λ c. search for-judge-field)
+    (λ c. search for-judge-field)
+    (λ c. search for-judge-field)
+    (λ c. search for-judge-field)
+    (λ c. search for-judge-field)
+    (λ c. search for-judge-field)
+    (λ c. search for-judge-field)
+    (λ c. search for-judge-field)
+    (λ c. search for-judge-field)
+    (λ c. search for-judge-field))

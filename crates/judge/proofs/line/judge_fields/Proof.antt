@@ -1,0 +1,29 @@
+-- `judge::line::judge_fields` meets its contract.
+-- Assumes nothing.
+use Rattle.judge.proofs.LineNeeds.{for-judge-fields}
+use Prim.Native.Nat.{_+_, _-_}
+use Rattle.judge.proofs.LineNeeds.{Going}
+use Rattle.judge.proofs.line.judge_fields.Statement.{statement}
+use Rattle.judge.proofs.line.judge_fields.Tie as tie
+
+abbrev Inv-loop : tie.InvT-loop
+Inv-loop k line ip head since block own first book q place day today facts n area₀ count fields c₀ f₀ area c f = Going today book q place line ip head since block own first day facts n count area₀ fields f c area
+
+abbrev μ-loop : tie.MeasureT-loop
+μ-loop k line ip head since block own first book q place day today facts n area₀ count fields c₀ f₀ area c f = fields + 1 - f
+
+pub judge-fields-spec : {M : Type 1} → statement M
+judge-fields-spec =
+    tie.close
+    (tie.spec
+    Inv-loop
+    μ-loop
+    (λ c. search for-judge-fields)
+    (λ c. search for-judge-fields)
+    (λ c. search for-judge-fields)
+    (λ c. search for-judge-fields)
+    (λ c. search for-judge-fields)
+    (λ c. search for-judge-fields)
+    (λ c. search for-judge-fields)
+    (λ c. search for-judge-fields)
+    (λ c. search for-judge-fields))

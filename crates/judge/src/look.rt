@@ -1,0 +1,74 @@
+// What is known of a line before its fields are judged: its day, and what the index and the ledger say of its event.
+use crate::BlockAt;
+use crate::Day;
+use crate::Facts;
+use lines::II;
+use lines::IN;
+ghost use mathlib.Core.Path.{_≡_};
+ghost use Rattle.lines.specs.Records.{recOf};
+ghost use Rattle.rules.specs.Blocks.{eventOf};
+ghost use Rattle.judge.specs.Walk.{factsBy};
+ghost use Rattle.judge.specs.Fields.{dayIn, dayBy};
+
+// The event that a line names.
+fn event_of(line: &[u8]) -> [u8; 37]
+    ensures { λ r. ⌜ r ≡ eventOf (recOf (now (line .entry))) ⌝ }
+{
+    let key = house::Key::of(
+        lines::field_of(line, 3),
+        lines::field_of(line, 6),
+        lines::field_of(line, 8),
+    );
+    key.bytes
+}
+
+// What is known of a line, by its block.
+pub(crate) fn facts_of(
+    file: &[u8],
+    index: &[u32],
+    ledger: &[u8],
+    live: usize,
+    line: &[u8],
+    b: BlockAt,
+) -> Facts
+    ensures { λ r. ⌜ r ≡ factsBy (now (file .entry)) (now (index .entry)) (now (ledger .entry)) live (now (line .entry)) b ⌝ }
+{
+    let joined = b.joined;
+    if b.inb {
+        let key = event_of(line);
+        let repeated = index::names_before(file, index, key, b.from);
+        let alive = ledger::is_live(ledger, live, key);
+        return Facts {
+            inb: true,
+            joined,
+            repeated,
+            live: alive,
+        };
+    }
+    Facts {
+        inb: false,
+        joined,
+        repeated: false,
+        live: false,
+    }
+}
+
+// The day that field f of a record gives.
+fn day_in(kind: u8, head: &[u8], f: usize) -> Day
+    ensures { λ r. ⌜ r ≡ dayIn kind (now (head .entry)) f ⌝ }
+{
+    let sound = forms::is_sound(kind, head, f);
+    let number = texts::value(lines::field_of(head, f));
+    Day { sound, number }
+}
+
+// The day of the record that a line of kind k belongs to.
+pub(crate) fn day_of(k: u8, head: &[u8]) -> Day
+    ensures { λ r. ⌜ r ≡ dayBy k (now (head .entry)) ⌝ }
+{
+    match k {
+        lines::II => day_in(II, head, 6),
+        lines::IE => day_in(II, head, 6),
+        _ => day_in(IN, head, 5),
+    }
+}
