@@ -3,8 +3,11 @@ pub mod AnswerLaws
 pub mod FileLaws
 pub mod RunLaws
 pub mod DemandLaws
+pub mod CodeLaws
 pub mod NumberLaws
 -- What the functions' own needs ask
 mod StepNeeds
 mod SettleNeeds
 mod InterfaceNeeds
+-- No second answer
+mod OneAnswer

@@ -1,6 +1,7 @@
 -- What the check answers: one total definition, from what is lent to what is left.
 -- Assumes nothing.
 use Prim.Native.Nat.{ℕ, _+_}
+use mathlib.Core.Path.{_≡_}
 use mathlib.Core.Bool.{Bool, true, false, not, cond}
 use mathlib.Core.List.{List, [], _∷_}
 use lib.ListN.{length}
@@ -118,6 +119,10 @@ check x =
     (cond (not (bookOk (x .book))) (refused x Book)
     (cond (not (ledgerOk (x .ledger))) (refused x Ledger)
     (shaped x (shapeOf (x .file))))))
+
+-- What the function `check` promises: what it answers and leaves is this definition's
+abbrev pub Gives : Lent → Answer → Text → Text → Type 0
+Gives x answer ledger area = left answer ledger area ≡ check x
 
 -- The paper's numbers: answer, line, cause, findings, added, changed, deleted, IN. "Numbers not named for an answer are 0."
 unfoldable pub numbersOf : Answer → List ℕ

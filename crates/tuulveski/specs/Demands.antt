@@ -20,7 +20,7 @@ use Rattle.rules.specs.Findings.{Finding}
 use Rattle.rules.specs.Claims.{Broken, Lists, AreaHolds}
 use Rattle.tuulveski.specs.declared.Answer.{Answer}
 use Rattle.tuulveski.specs.declared.Answer.the-variants.{Accepted, Date, Long, Book, Ledger, Shape as BadShape, Findings, Full}
-use Rattle.tuulveski.specs.Answers.{Lent, Outcome, fileMost, settingOf, added, changed, deleted, notImmunized, numbersOf, isAccepted, isFindings}
+use Rattle.tuulveski.specs.Answers.{Lent, Outcome, left, fileMost, settingOf, added, changed, deleted, notImmunized, Gives, numbersOf, isAccepted, isFindings}
 use Rattle.tuulveski.specs.Runs.{Check, Call, ledgerAfterRun, allAdded, allDeleted, lastAdded, isOf}
 
 -- DEMAND 1: "the check ends with one of the numbered answers .. A refused file leaves the ledger byte for byte as lent; the findings area
@@ -154,3 +154,11 @@ pub record UselessShutOut : Type 0 where
   pub constant : (check : Check) → ((x : Lent) → Demand2 x (check x)) → Constant check → ⊥
   pub never-touches : (check : Check) → ((x : Lent) → Demand2 x (check x)) → Demand3 check → NeverTouches check → ⊥
   pub only-first : (check : Check) → ((x : Lent) → Demand2 x (check x)) → Demand3 check → OnlyFirst check → ⊥
+
+-- THE CODE: what is demanded, of what a function answers and leaves that promises what `check` promises
+pub record CodeMeets : Type 0 where
+  pub demand-1 : (x : Lent) (a : Answer) (ledger area : Text) → Gives x a ledger area → Demand1 x (left a ledger area)
+  pub demand-2 : (x : Lent) (a : Answer) (ledger area : Text) → Gives x a ledger area → Demand2 x (left a ledger area)
+  pub ledger-after : (x : Lent) (a : Answer) (ledger area : Text) → Gives x a ledger area → LedgerAfter x (left a ledger area)
+  -- and of its calls in any run
+  pub demands : (code : Check) → ((x : Lent) → Gives x (code x .answer) (code x .ledger) (code x .area)) → Demands code

@@ -3,8 +3,8 @@ use crate::Answer;
 use crate::steps::check;
 ghost use mathlib.Core.Path.{_≡_};
 ghost use Prim.Native.Nat.{_<_};
-ghost use Rattle.tuulveski.specs.Answers.{lent, check, numbersOf};
-ghost use Rattle.tuulveski.specs.Interface.{numbers, numbersIn, fieldAt};
+ghost use Rattle.tuulveski.specs.Answers.{lent, numbersOf};
+ghost use Rattle.tuulveski.specs.Interface.{numbers, numbersIn, GivesNumbers, fieldAt};
 ghost use Rattle.tuulveski.specs.Inside.{Narrow};
 
 // The numbers of an answer, those that it does not name being 0.
@@ -110,9 +110,7 @@ pub extern "C" fn tuulveski_check(
     ledger: &mut [u8],
     findings: &mut [u8],
 ) -> Numbers
-    ensures { λ r. ⌜ numbersIn r ≡ numbersOf (check (lent today (now (file .entry)) (now (book .entry)) (now (ledger .entry)) (now (findings .entry))) .answer) ⌝ }
-    ensures { λ _. ⌜ now (ledger .exit) ≡ check (lent today (now (file .entry)) (now (book .entry)) (now (ledger .entry)) (now (findings .entry))) .ledger ⌝ }
-    ensures { λ _. ⌜ now (findings .exit) ≡ check (lent today (now (file .entry)) (now (book .entry)) (now (ledger .entry)) (now (findings .entry))) .area ⌝ }
+    ensures { λ r. ⌜ GivesNumbers (lent today (now (file .entry)) (now (book .entry)) (now (ledger .entry)) (now (findings .entry))) r (now (ledger .exit)) (now (findings .exit)) ⌝ }
 {
     let a = check(today, file, book, ledger, findings);
     numbers_of(a)

@@ -12,7 +12,7 @@ ghost use Rattle.lines.specs.declared.Shape.the-variants.{Right};
 ghost use Rattle.lines.specs.Shape.{shapeOf};
 ghost use Rattle.book.specs.Book.{Sound};
 ghost use Rattle.rules.specs.Findings.{areaAfter};
-ghost use Rattle.tuulveski.specs.Answers.{lent, left, findings, check, judged};
+ghost use Rattle.tuulveski.specs.Answers.{lent, left, findings, judged, Gives};
 ghost use Rattle.tuulveski.specs.Inside.{afterBook, afterLedger, tallyOf, Ready, Judges};
 
 // How many blocks, findings and IN records there are.
@@ -144,7 +144,7 @@ fn after_book(
 
 // The check. The ledger alters only at ACCEPTED, the findings area only at FINDINGS.
 pub fn check(today: u32, file: &[u8], book: &[u8], ledger: &mut [u8], area: &mut [u8]) -> Answer
-    ensures { λ r. ⌜ left r (now (ledger .exit)) (now (area .exit)) ≡ check (lent today (now (file .entry)) (now (book .entry)) (now (ledger .entry)) (now (area .entry))) ⌝ }
+    ensures { λ r. ⌜ Gives (lent today (now (file .entry)) (now (book .entry)) (now (ledger .entry)) (now (area .entry))) r (now (ledger .exit)) (now (area .exit)) ⌝ }
 {
     if Date::is_day(today) {
         if 5000000 < file.len() {

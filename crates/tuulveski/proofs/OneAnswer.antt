@@ -1,0 +1,38 @@
+-- No second answer meets the contract of a public function, nor a second ledger or findings area.
+-- Assumes nothing.
+use mathlib.Core.Path.{_≡_, sym, ap, _∙_}
+use Prim.Native.Nat.{ℕ}
+use Rattle.house.specs.Text.{Text}
+use Rattle.tuulveski.specs.declared.Answer.{Answer}
+use Rattle.tuulveski.specs.declared.interface.Numbers.{Numbers}
+use Rattle.tuulveski.specs.declared.interface.FieldAt.{FieldAt}
+use Rattle.tuulveski.specs.Answers.{Lent, Outcome, left, Gives}
+use Rattle.tuulveski.specs.Interface.{numbers, numbersIn, GivesNumbers, fieldAt}
+
+check-one : (x : Lent) (a b : Answer) (l m r s : Text) → Gives x a l r → Gives x b m s → (a ≡ b) × (l ≡ m) × (r ≡ s)
+check-one x a b l m r s e f =
+    let g : left a l r ≡ left b m s = e ∙ sym f in
+    (ap (λ (o : Outcome). o .answer) g, ap (λ (o : Outcome). o .ledger) g, ap (λ (o : Outcome). o .area) g)
+
+-- the eight numbers are the whole of the struct
+same-numbers : (n m : Numbers) → numbersIn n ≡ numbersIn m → n ≡ m
+unfolding numbersIn
+same-numbers n m e =
+    let a : n .answer ≡ m .answer = cc in
+    let b : n .line ≡ m .line = cc in
+    let c : n .cause ≡ m .cause = cc in
+    let d : n .findings ≡ m .findings = cc in
+    let f : n .added ≡ m .added = cc in
+    let g : n .changed ≡ m .changed = cc in
+    let h : n .deleted ≡ m .deleted = cc in
+    let i : n .«not_immunized» ≡ m .«not_immunized» = cc in
+    let q : numbers (n .answer) (n .line) (n .cause) (n .findings) (n .added) (n .changed) (n .deleted) (n .«not_immunized»)
+    ≡ numbers (m .answer) (m .line) (m .cause) (m .findings) (m .added) (m .changed) (m .deleted) (m .«not_immunized») = cc in
+    q
+
+tuulveski-check-one : (x : Lent) (n k : Numbers) (l m r s : Text) → GivesNumbers x n l r → GivesNumbers x k m s → (n ≡ k) × (l ≡ m) × (r ≡ s)
+tuulveski-check-one x n k l m r s e f =
+    (same-numbers n k (e .numbers-are ∙ sym (f .numbers-are)), e .ledger-is ∙ sym (f .ledger-is), e .area-is ∙ sym (f .area-is))
+
+tuulveski-field-one : (s : Text) (line field : ℕ) (r q : FieldAt) → r ≡ fieldAt s line field → q ≡ fieldAt s line field → r ≡ q
+tuulveski-field-one s line field r q e f = e ∙ sym f
