@@ -3,12 +3,11 @@
 use mathlib.Core.Path.{_≡_, refl, sym, ap, ap₂, _∙_}
 use mathlib.Core.Bool.{Bool, true, false, not, cond, _&&_}
 use mathlib.Core.List.{List, [], _∷_, _++_, append-assoc, append-nil}
-use Prim.Native.Nat.{ℕ, suc, _+_, _-_, _≤_, _<_}
+use Prim.Native.Nat.{ℕ, _+_, _-_, _≤_, _<_}
 use native.Mathlib.Numerals.{add-one}
 use native.Mathlib.Omega.{arith}
 use borrow.Author.Needs.{needs}
 use borrow.Author.Tests.{eq-eqb, ne-eqb, le-leb, lt-leb}
-use lib.Dec.{T, eqb}
 use lib.ListN.{length, take, drop, set, length-set, length-append, take-append-drop}
 use lib.Seq.{take-at, drop-at, take-suc-set, drop-set-lt, drop-drop, length-take-le}
 use Rattle.house.specs.Text.{Text}
@@ -18,12 +17,11 @@ use Rattle.lines.specs.declared.LineAt.{LineAt}
 use Rattle.lines.specs.Lines.{lineOf, LineIs, linesLen}
 use Rattle.lines.specs.Records.{Rec, IE, recordOf, isKind, recOf, recs}
 use Rattle.lines.proofs.LineLaws.{lines-past, at-next, at-text}
-use Rattle.events.specs.Sorted.{place, canSort, sortedAt}
+use Rattle.events.specs.Sorted.{canSort, sortedAt}
 use Rattle.events.proofs.EventLaws.{at-from, at-in}
 use Rattle.forms.proofs.FieldLaws.{kind-is}
 use Rattle.rules.specs.Places.{noRec}
 use Rattle.rules.specs.Blocks.{isInBlock, joins, nearestOf, blockIn, openAfter, begins}
-use Rattle.index.specs.declared.Built.{Built}
 use Rattle.index.specs.declared.Built.the-variants.{Blocks, TooMany}
 use Rattle.index.specs.declared.Turn.{Turn}
 use Rattle.index.specs.Firsts.{startAfter, firstsOf, indexOf, over, canBuild, builtOf, builtIn}

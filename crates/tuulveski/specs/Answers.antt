@@ -34,6 +34,12 @@ pub record Outcome : Type 0 where
   pub ledger : Text
   pub area : Text
 
+abbrev pub lent : ℕ → Text → Text → Text → Text → Lent
+lent today file book ledger area = record { today = today; file = file; book = book; ledger = ledger; area = area }
+
+abbrev pub left : Answer → Text → Text → Outcome
+left answer ledger area = record { answer = answer; ledger = ledger; area = area }
+
 -- "file over 5,000,000 bytes"
 abbrev pub fileMost : ℕ
 fileMost = 5000000

@@ -1,4 +1,5 @@
 pub mod Answers
+pub mod Inside
 pub mod Runs
 pub mod Examples
 pub mod Demands

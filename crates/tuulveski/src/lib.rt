@@ -1,4 +1,8 @@
 // The check of a submission: one call over file, code book, ledger, findings area and today's date.
+mod settling;
+mod steps;
+
+pub use steps::check;
 
 // The answers, by document 01's names; `numbersOf` in specs/ gives the paper's numbers of each.
 pub enum Answer {

@@ -1,0 +1,20 @@
+-- `tuulveski::settling::renew_in` meets its contract.
+-- Assumes nothing.
+use Rattle.tuulveski.proofs.SettleNeeds.{for-renew-in}
+use Rattle.tuulveski.proofs.settling.renew_in.Statement.{statement}
+use Rattle.tuulveski.proofs.settling.renew_in.Tie as tie
+
+pub renew-in-spec : {M : Type 1} → statement M
+renew-in-spec =
+    tie.close
+    (tie.spec
+    (λ c. search for-renew-in)
+    (λ c. search for-renew-in)
+    (λ c. search for-renew-in)
+    (λ c. search for-renew-in)
+    (λ c. search for-renew-in)
+    (λ c κs. (search for-renew-in, (search for-renew-in, (search for-renew-in, search for-renew-in))))
+    (λ c. search for-renew-in)
+    (λ c. search for-renew-in)
+    (λ c. search for-renew-in)
+    (λ c. search for-renew-in))

@@ -1,0 +1,16 @@
+-- `tuulveski::settling::settle_front` meets its contract.
+-- Assumes nothing.
+use Rattle.tuulveski.proofs.SettleNeeds.{for-settle-front}
+use Rattle.tuulveski.proofs.settling.settle_front.Statement.{statement}
+use Rattle.tuulveski.proofs.settling.settle_front.Tie as tie
+
+pub settle-front-spec : {M : Type 1} → statement M
+settle-front-spec =
+    tie.close
+    (tie.spec
+    (λ c. search for-settle-front)
+    (λ c. search for-settle-front)
+    (λ c. search for-settle-front)
+    (λ c. search for-settle-front)
+    (λ c. search for-settle-front)
+    (λ c. search for-settle-front))

@@ -1,0 +1,161 @@
+// The steps of the check, in the order of document 01's answers: each function answers from one of them on.
+use crate::Answer;
+use crate::settling::settle_front;
+use book::Sections;
+use house::Date;
+use judge::Judged;
+use lines::Shape;
+ghost use mathlib.Core.Path.{_≡_};
+ghost use Prim.Native.Nat.{_≤_};
+ghost use lib.ListN.{length};
+ghost use Rattle.lines.specs.declared.Shape.the-variants.{Right};
+ghost use Rattle.lines.specs.Shape.{shapeOf};
+ghost use Rattle.book.specs.Book.{Sound};
+ghost use Rattle.rules.specs.Findings.{areaAfter};
+ghost use Rattle.tuulveski.specs.Answers.{lent, left, findings, check, judged};
+ghost use Rattle.tuulveski.specs.Inside.{afterBook, afterLedger, tallyOf, Ready, Judges};
+
+// How many blocks, findings and IN records there are.
+struct Tally {
+    blocks: usize,
+    findings: usize,
+    declined: usize,
+}
+
+// Judges a file of right shape: the findings go to their area, and the index of the blocks to the front of a room.
+fn judge_all(
+    today: u32,
+    file: &[u8],
+    book: &[u8],
+    q: Sections,
+    ledger: &[u8],
+    live: usize,
+    area: &mut [u8],
+    room: &mut [u32],
+) -> Tally
+    requires { ⌜ Ready (lent today (now file) (now book) (now ledger) (now area)) q live ⌝ }
+    requires { ⌜ shapeOf (now file) ≡ Right ⌝ }
+    requires { ⌜ length (now room) ≡ 96154 ⌝ }
+    ensures { λ r. ⌜ r ≡ tallyOf (lent today (now (file .entry)) (now (book .entry)) (now (ledger .entry)) (now (area .entry))) ⌝ }
+    ensures { λ _. ⌜ now (area .exit) ≡ areaAfter (now (area .entry)) (findings (lent today (now (file .entry)) (now (book .entry)) (now (ledger .entry)) (now (area .entry)))) ⌝ }
+    ensures { λ r. ⌜ Judges (now (file .entry)) (now (ledger .entry)) live r (now (room .exit)) ⌝ }
+{
+    let j = judge::judge(today, file, book, q, ledger, live, room, area);
+    match j {
+        Judged::Done {
+            blocks,
+            findings,
+            declined,
+        } => Tally {
+            blocks,
+            findings,
+            declined,
+        },
+        Judged::TooMany => Tally {
+            blocks: 0,
+            findings: 0,
+            declined: 0,
+        },
+    }
+}
+
+// From FINDINGS on, in a room for the index.
+fn judged_in(
+    today: u32,
+    file: &[u8],
+    book: &[u8],
+    q: Sections,
+    ledger: &mut [u8],
+    live: usize,
+    area: &mut [u8],
+    room: &mut [u32],
+) -> Answer
+    requires { ⌜ Ready (lent today (now file) (now book) (now ledger) (now area)) q live ⌝ }
+    requires { ⌜ shapeOf (now file) ≡ Right ⌝ }
+    requires { ⌜ length (now room) ≡ 96154 ⌝ }
+    ensures { λ r. ⌜ left r (now (ledger .exit)) (now (area .exit)) ≡ judged (lent today (now (file .entry)) (now (book .entry)) (now (ledger .entry)) (now (area .entry))) ⌝ }
+{
+    let n = judge_all(today, file, book, q, ledger, live, area, room);
+    let findings = n.findings;
+    if findings == 0 {
+        settle_front(file, ledger, live, room, n.blocks, n.declined)
+    } else {
+        Answer::Findings(findings)
+    }
+}
+
+// From FINDINGS on. A file of right shape has 96154 blocks at most.
+fn judged(
+    today: u32,
+    file: &[u8],
+    book: &[u8],
+    q: Sections,
+    ledger: &mut [u8],
+    live: usize,
+    area: &mut [u8],
+) -> Answer
+    requires { ⌜ Ready (lent today (now file) (now book) (now ledger) (now area)) q live ⌝ }
+    requires { ⌜ shapeOf (now file) ≡ Right ⌝ }
+    ensures { λ r. ⌜ left r (now (ledger .exit)) (now (area .exit)) ≡ judged (lent today (now (file .entry)) (now (book .entry)) (now (ledger .entry)) (now (area .entry))) ⌝ }
+{
+    let mut room = [0u32; 96154];
+    judged_in(today, file, book, q, ledger, live, area, &mut room)
+}
+
+// From SHAPE on.
+fn after_ledger(
+    today: u32,
+    file: &[u8],
+    book: &[u8],
+    q: Sections,
+    ledger: &mut [u8],
+    live: usize,
+    area: &mut [u8],
+) -> Answer
+    requires { ⌜ Ready (lent today (now file) (now book) (now ledger) (now area)) q live ⌝ }
+    ensures { λ r. ⌜ left r (now (ledger .exit)) (now (area .exit)) ≡ afterLedger (lent today (now (file .entry)) (now (book .entry)) (now (ledger .entry)) (now (area .entry))) ⌝ }
+{
+    let s = lines::shape_of(file);
+    match s {
+        Shape::Right => judged(today, file, book, q, ledger, live, area),
+        Shape::Fault { line, cause } => Answer::Shape { line, cause },
+    }
+}
+
+// From LEDGER on.
+fn after_book(
+    today: u32,
+    file: &[u8],
+    book: &[u8],
+    q: Sections,
+    ledger: &mut [u8],
+    area: &mut [u8],
+) -> Answer
+    requires { ⌜ Sound (now book) q ⌝ }
+    requires { ⌜ length (now file) ≤ 5000000 ⌝ }
+    ensures { λ r. ⌜ left r (now (ledger .exit)) (now (area .exit)) ≡ afterBook (lent today (now (file .entry)) (now (book .entry)) (now (ledger .entry)) (now (area .entry))) ⌝ }
+{
+    let v = ledger::valid(ledger);
+    match v {
+        ledger::Validity::Sound { live } => after_ledger(today, file, book, q, ledger, live, area),
+        ledger::Validity::Malformed => Answer::Ledger,
+    }
+}
+
+// The check. The ledger alters only at ACCEPTED, the findings area only at FINDINGS.
+pub fn check(today: u32, file: &[u8], book: &[u8], ledger: &mut [u8], area: &mut [u8]) -> Answer
+    ensures { λ r. ⌜ left r (now (ledger .exit)) (now (area .exit)) ≡ check (lent today (now (file .entry)) (now (book .entry)) (now (ledger .entry)) (now (area .entry))) ⌝ }
+{
+    if Date::is_day(today) {
+        if 5000000 < file.len() {
+            return Answer::Long;
+        }
+        let v = book::valid(book);
+        match v {
+            book::Validity::Valid(q) => after_book(today, file, book, q, ledger, area),
+            book::Validity::Malformed => Answer::Book,
+        }
+    } else {
+        Answer::Date
+    }
+}
