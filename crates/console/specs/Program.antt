@@ -11,7 +11,7 @@ use Rattle.house.specs.Dates.{isDate, isDay}
 use Rattle.book.specs.Book.{bookOk}
 use Rattle.tuulveski.specs.declared.Answer.{Answer}
 use Rattle.tuulveski.specs.declared.Answer.the-variants.{Date, Long, Book, Ledger}
-use Rattle.tuulveski.specs.Answers.{Lent, Outcome, refused, check}
+use Rattle.tuulveski.specs.Answers.{Lent, Outcome, lent, refused, check}
 
 abbrev pub submissionMost : ℕ
 submissionMost = 32000
@@ -32,10 +32,11 @@ todayIn input = cond (isDated input) (number (take 8 input)) 0
 
 -- what the check is lent: today, what follows its line, and the files
 abbrev pub lentBy : Text → Text → Text → Text → Lent
-lentBy input book ledger area = record { today = todayIn input; file = drop 9 input; book = book; ledger = ledger; area = area }
+lentBy input book ledger area = lent (todayIn input) (drop 9 input) book ledger area
 
-abbrev pub leaves : Answer → Text → Text → Outcome
-leaves a ledger area = record { answer = a; ledger = ledger; area = area }
+-- a ledger that is too long is LEDGER, unless the book is malformed
+unfoldable pub overLong : Text → Answer
+overLong book = cond (bookOk book) Ledger Book
 
 -- "The lowest number that applies is given."
 unfoldable pub answerOf : Text → Text → Text → Text → Outcome
@@ -44,5 +45,5 @@ answerOf input book ledger area =
     cond (not (isDay (todayIn input))) (refused x Date)
     (cond (ltb submissionMost (length (drop 9 input))) (refused x Long)
     (cond (ltb codesMost (length book)) (refused x Book)
-    (cond (ltb ledgerMost (length ledger)) (cond (bookOk book) (refused x Ledger) (refused x Book))
+    (cond (ltb ledgerMost (length ledger)) (refused x (overLong book))
     (check x))))

@@ -1,11 +1,11 @@
 // What the program answers of what it reads.
+use book::Validity;
 use house::Date;
 use house::Dated;
 use tuulveski::Answer;
 ghost use mathlib.Core.Path.{_≡_};
-ghost use Prim.Native.Nat.{_≤_};
-ghost use lib.ListN.{length};
-ghost use Rattle.console.specs.Program.{todayIn, answerOf, leaves};
+ghost use Rattle.tuulveski.specs.Answers.{left};
+ghost use Rattle.console.specs.Program.{todayIn, overLong, answerOf};
 
 // Today, where the first line is a date: eight digits and LF; 0, which is no date, for any other first line.
 fn today_in(input: &[u8]) -> u32
@@ -27,7 +27,9 @@ fn today_in(input: &[u8]) -> u32
 }
 
 // A ledger that is too long is LEDGER, unless the book is malformed.
-fn over_long(book: &[u8]) -> Answer {
+fn over_long(book: &[u8]) -> Answer
+    ensures { λ r. ⌜ r ≡ overLong (now (book .entry)) ⌝ }
+{
     let v = book::valid(book);
     match v {
         Validity::Valid(_) => Answer::Ledger,
@@ -37,7 +39,7 @@ fn over_long(book: &[u8]) -> Answer {
 
 // The answer to what was read.
 pub fn answer(input: &[u8], book: &[u8], ledger: &mut [u8], area: &mut [u8]) -> Answer
-    ensures { λ r. ⌜ leaves r (now (ledger .exit)) (now (area .exit)) ≡ answerOf (now (input .entry)) (now (book .entry)) (now (ledger .entry)) (now (area .entry)) ⌝ }
+    ensures { λ r. ⌜ left r (now (ledger .exit)) (now (area .exit)) ≡ answerOf (now (input .entry)) (now (book .entry)) (now (ledger .entry)) (now (area .entry)) ⌝ }
 {
     let today = today_in(input);
     if today == 0 {

@@ -45,7 +45,13 @@ fn numbers(a: Answer) -> usize {
             not_immunized,
         } => {
             three(0, 0, 0);
-            five(0, added as u64, changed as u64, deleted as u64, not_immunized as u64);
+            five(
+                0,
+                added as u64,
+                changed as u64,
+                deleted as u64,
+                not_immunized as u64,
+            );
             0
         }
         Answer::Date => bare(1),
@@ -71,15 +77,15 @@ fn finding(area: &[u8], at: usize) {
     if at < area.len() {
         if 6 <= area.len() - at {
             let line = stream::number_at(area, at + 1);
-            let field = area[at + 5];
-            let rule = area[at];
-            three_of(line as u64, field as u64, rule as u64);
+            let field = stream::wide(area[at + 5]);
+            let rule = stream::wide(area[at]);
+            on_a_line(line as u64, field as u64, rule as u64);
         }
     }
 }
 
 // Prints three numbers on a line.
-fn three_of(a: u64, b: u64, c: u64) {
+fn on_a_line(a: u64, b: u64, c: u64) {
     io::print_decimal(1, a);
     blank();
     io::print_decimal(1, b);
