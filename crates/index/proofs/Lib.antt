@@ -7,6 +7,7 @@ pub mod TypeLaws
 pub mod FindLaws
 pub mod OnceLaws
 pub mod StartLaws
+pub mod OverLaws
 -- What the functions' own needs ask
 mod FindNeeds
 mod WalkNeeds

@@ -18,9 +18,7 @@ use Rattle.lines.specs.declared.LineAt.{LineAt}
 use Rattle.lines.specs.Lines.{lineOf, LineIs, linesLen}
 use Rattle.lines.specs.Records.{Rec, IE, recordOf, isKind, recOf, recs}
 use Rattle.lines.proofs.LineLaws.{lines-past, at-next, at-text}
-use Rattle.events.specs.Events.{eventAt}
 use Rattle.events.specs.Sorted.{place, canSort, sortedAt}
-use Rattle.events.proofs.Order.{length-place}
 use Rattle.events.proofs.EventLaws.{at-from, at-in}
 use Rattle.forms.proofs.FieldLaws.{kind-is}
 use Rattle.rules.specs.Places.{noRec}
@@ -32,6 +30,7 @@ use Rattle.index.specs.Firsts.{startAfter, firstsOf, indexOf, over, canB
 use Rattle.index.specs.Inside.{recAt, nextLine, firstsFrom, turnOf, Walk}
 use Rattle.index.proofs.PassLaws.{start-on, next-past, recs-at, firsts-on, firsts-start, firsts-none}
 use Rattle.index.proofs.NamedLaws.{not-IE}
+use Rattle.index.proofs.OverLaws.{over-front, index-size}
 
 -- is_apart, left_open
 rec-at : (f : Text) (p : ℕ) (t : Text) → t ≡ lineOf (drop p f) .text → recOf t ≡ recAt f p
@@ -180,11 +179,6 @@ module _ (f : Text) (at last n : ℕ) (c : Counting f at last n) where
 pub ruleset for-count-blocks = (needs, count-start, count-end, count-falls, count-first, count-other)
 
 -- gather
-pub over-front : (xs out : List ℕ) → length xs ≤ length out → over xs out ≡ xs ++ drop (length xs) out
-over-front [] out h = refl
-over-front (x ∷ xs) [] h = absurd (omega arith)
-over-front (x ∷ xs) (y ∷ out) h = ap (λ (l : List ℕ). x ∷ l) (over-front xs out (omega arith))
-
 module _ (f : Text) (old : List ℕ) where
   pub record Gathering (index : List ℕ) (at last n : ℕ) : Type 0 where
     pub walk : Walk f at last (take n index)
@@ -300,8 +294,7 @@ module _ (f : Text) (old : List ℕ) where
           sorted = rw (← e, le-leb n 96154 g)
 
           sorted-size : length (indexOf f) ≡ n
-          unfolding indexOf
-          sorted-size = length-place (eventAt f) (firstsOf f) [] ∙ omega arith
+          sorted-size = index-size f ∙ sym e
 
           built : builtIn f old ≡ over (indexOf f) old
           unfolding builtIn canBuild

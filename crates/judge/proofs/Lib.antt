@@ -11,6 +11,7 @@ pub mod Collapse
 pub mod AtLaws
 pub mod RuleLaws
 pub mod LookLaws
+pub mod SettingLaws
 -- What the functions' own needs ask
 mod EmitNeeds
 mod WalkNeeds
@@ -19,4 +20,6 @@ mod LaterNeeds
 mod HeadNeeds
 mod LineNeeds
 mod PassNeeds
+mod TurnNeeds
+mod JudgeNeeds
 mod VaccineNeeds

@@ -46,7 +46,20 @@ fn judge_field(
     match k {
         lines::IV => judge_iv(line, f),
         lines::IP => judge_ip(line, place, today, f),
-        lines::II => judge_ii(line, ip, block, own, first, book, q, place, day, today, facts, f),
+        lines::II => judge_ii(
+            line,
+            ip,
+            block,
+            own,
+            first,
+            book,
+            q,
+            place,
+            day,
+            today,
+            facts,
+            f,
+        ),
         lines::IE => judge_ie(line, ip, head, since, book, q, place, day, today, f),
         lines::IN => judge_in(line, ip, book, q, place, day, today, f),
         lines::IA => judge_ia(line, ip, book, q, place, day, today, f),
@@ -83,7 +96,23 @@ pub(crate) fn judge_fields(
     let mut c = count;
     let mut f = 1;
     while f <= fields {
-        let b = judge_field(k, line, ip, head, since, block, own, first, book, q, place, day, today, facts, f);
+        let b = judge_field(
+            k,
+            line,
+            ip,
+            head,
+            since,
+            block,
+            own,
+            first,
+            book,
+            q,
+            place,
+            day,
+            today,
+            facts,
+            f,
+        );
         c = emit(area, c, n, f, b);
         f += 1;
     }

@@ -14,12 +14,23 @@ ghost use Rattle.judge.specs.Fields.{dayIn, dayBy};
 fn event_of(line: &[u8]) -> [u8; 37]
     ensures { λ r. ⌜ r ≡ eventOf (recOf (now (line .entry))) ⌝ }
 {
-    let key = house::Key::of(lines::field_of(line, 3), lines::field_of(line, 6), lines::field_of(line, 8));
+    let key = house::Key::of(
+        lines::field_of(line, 3),
+        lines::field_of(line, 6),
+        lines::field_of(line, 8),
+    );
     key.bytes
 }
 
 // What is known of a line, by its block.
-pub(crate) fn facts_of(file: &[u8], index: &[u32], ledger: &[u8], live: usize, line: &[u8], b: BlockAt) -> Facts
+pub(crate) fn facts_of(
+    file: &[u8],
+    index: &[u32],
+    ledger: &[u8],
+    live: usize,
+    line: &[u8],
+    b: BlockAt,
+) -> Facts
     ensures { λ r. ⌜ r ≡ factsBy (now (file .entry)) (now (index .entry)) (now (ledger .entry)) live (now (line .entry)) b ⌝ }
 {
     let joined = b.joined;

@@ -27,13 +27,13 @@ ghost use Rattle.lines.specs.Records.{IE, IN, isKind, recordOf, recs};
 ghost use Rattle.lines.specs.Inside.{part, whole};
 ghost use Rattle.ledger.specs.Ledger.{foundIn};
 ghost use Rattle.rules.specs.Seen.{Setting, Seen};
-ghost use Rattle.rules.specs.Findings.{fieldsFindings, findingsOf};
+ghost use Rattle.rules.specs.Findings.{fieldsFindings, areaAfter};
 ghost use Rattle.index.specs.Firsts.{indexOf, builtIn};
 ghost use Rattle.judge.specs.Inside.{kept, keep};
 ghost use Rattle.judge.specs.Look.{settingBy};
 ghost use Rattle.judge.specs.Fields.{Looks, Told};
-ghost use Rattle.judge.specs.Walk.{partOf, Holds, BlockIs, OwnEnd, Ready, PartsIn, TurnIs, headAt, span, seenWith};
-ghost use Rattle.judge.specs.Judged.{judgedOf, judgedArea};
+ghost use Rattle.judge.specs.Walk.{partOf, Holds, BlockIs, OwnEnd, Ready, PartsIn, TurnIs, startState, headAt, span, seenWith};
+ghost use Rattle.judge.specs.Judged.{findingsBy, judgedOf, judgedArea};
 
 // Where the IE lines of an II end that start at a position; the position itself for a line of another kind.
 fn own_end(file: &[u8], k: u8, from: usize) -> usize
@@ -130,5 +130,159 @@ fn judge_line(
     let he = head.end;
     let own = own_end(file, k, next);
     let day = day_of(k, &file[hs..he]);
-    judge_parts(file, at, l, k, st, b.from, head, own, book, q, day, today, facts, area, count)
+    judge_parts(
+        file,
+        at,
+        l,
+        k,
+        st,
+        b.from,
+        head,
+        own,
+        book,
+        q,
+        day,
+        today,
+        facts,
+        area,
+        count,
+    )
+}
+
+// One line judged, and the state after it.
+fn turn(
+    file: &[u8],
+    at: usize,
+    st: State,
+    index: &[u32],
+    ledger: &[u8],
+    live: usize,
+    book: &[u8],
+    q: Sections,
+    today: u32,
+    area: &mut [u8],
+    count: usize,
+) -> Turn
+    requires { ⌜ Holds (now file) at st ⌝ }
+    requires { ⌜ at < length (now file) ⌝ }
+    requires { ⌜ length (now file) ≤ 5000000 ⌝ }
+    requires { ⌜ now index ≡ indexOf (now file) ⌝ }
+    requires { ⌜ count ≤ 3 * at ⌝ }
+    ensures { λ r. ⌜ TurnIs (settingBy today (now (book .entry)) q (foundIn (now (ledger .entry)) live)) (now (file .entry)) at st count (now (area .entry)) r (now (area .exit)) ⌝ }
+{
+    let l = lines::line_at(file, at);
+    let end = l.end;
+    let next = l.next;
+    let line = &file[at..end];
+    let k = lines::kind_of(line);
+    let b = block_of(file, at, st, line);
+    let facts = facts_of(file, index, ledger, live, line, b);
+    let c = judge_line(file, at, l, k, st, b, facts, book, q, today, area, count);
+    let after = advance(st, k, Span { start: at, end }, next, b);
+    Turn {
+        at: next,
+        st: after,
+        count: c,
+    }
+}
+
+// The state at the start of a file.
+fn start() -> State
+    ensures { λ r. ⌜ r ≡ startState ⌝ }
+{
+    let none = Span { start: 0, end: 0 };
+    State {
+        n: 1,
+        place: 1,
+        ip: none,
+        ii: none,
+        declined: none,
+        since: 0,
+        last: none,
+        run: 0,
+        many: false,
+        first: none,
+        ins: 0,
+    }
+}
+
+// Every line of a file: its findings counted, and those that fit written.
+fn walk(
+    file: &[u8],
+    index: &[u32],
+    ledger: &[u8],
+    live: usize,
+    book: &[u8],
+    q: Sections,
+    today: u32,
+    area: &mut [u8],
+) -> Walked
+    requires { ⌜ length (now file) ≤ 5000000 ⌝ }
+    requires { ⌜ now index ≡ indexOf (now file) ⌝ }
+    ensures { λ r. ⌜ r .findings ≡ length (findingsBy today (now (file .entry)) (now (book .entry)) q (now (ledger .entry)) live) ⌝ }
+    ensures { λ r. ⌜ now (area .exit) ≡ areaAfter (now (area .entry)) (findingsBy today (now (file .entry)) (now (book .entry)) q (now (ledger .entry)) live) ⌝ }
+    ensures { λ r. ⌜ r .declined ≡ count (isKind IN) (recs (now (file .entry))) ⌝ }
+{
+    let mut st = start();
+    let mut at = 0;
+    let mut findings = 0;
+    while at < file.len() {
+        let t = turn(
+            file,
+            at,
+            st,
+            index,
+            ledger,
+            live,
+            book,
+            q,
+            today,
+            area,
+            findings,
+        );
+        st = t.st;
+        at = t.at;
+        findings = t.count;
+    }
+    let declined = st.ins;
+    Walked { findings, declined }
+}
+
+// Judges a file: builds its index in the room lent, counts its findings, and writes those that fit in the area.
+pub fn judge(
+    today: u32,
+    file: &[u8],
+    book: &[u8],
+    q: Sections,
+    ledger: &[u8],
+    live: usize,
+    room: &mut [u32],
+    area: &mut [u8],
+) -> Judged
+    ensures { λ r. ⌜ r ≡ judgedOf today (now (file .entry)) (now (book .entry)) q (now (ledger .entry)) live (length (now (room .entry))) ⌝ }
+    ensures { λ _. ⌜ now (room .exit) ≡ builtIn (now (file .entry)) (now (room .entry)) ⌝ }
+    ensures { λ _. ⌜ now (area .exit) ≡ judgedArea today (now (file .entry)) (now (book .entry)) q (now (ledger .entry)) live (length (now (room .entry))) (now (area .entry)) ⌝ }
+{
+    let built = index::build(file, room);
+    match built {
+        Built::TooMany => Judged::TooMany,
+        Built::Blocks(blocks) => {
+            let from = 0;
+            let w = walk(
+                file,
+                &room[from..blocks],
+                ledger,
+                live,
+                book,
+                q,
+                today,
+                area,
+            );
+            Judged::Done {
+                blocks,
+                findings: w.findings,
+                declined: w.declined,
+            }
+        }
+    }
 }

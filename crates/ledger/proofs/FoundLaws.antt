@@ -25,7 +25,7 @@ use Rattle.ledger.specs.Inside.{whole}
 use Rattle.ledger.proofs.SlotLaws.{length-slots}
 use Rattle.ledger.proofs.LiveLaws.{in-order, live-slots, live-asc}
 
-those-le : {A : Type 0} (p : A → Bool) (xs : List A) → length (those p xs) ≤ length xs
+pub those-le : {A : Type 0} (p : A → Bool) (xs : List A) → length (those p xs) ≤ length xs
 those-le p [] = omega arith
 those-le {A} p (x ∷ xs) = go (p x) (those-le p xs)
   where

@@ -1,3 +1,5 @@
+-- `house_vectors::run` meets its contract.
+-- Assumes nothing.
 use Rattle.house_vectors.proofs.Loops.{for-cases}
 use Prim.Native.Nat.{_-_, _≤_}
 use lib.ListN.{length}

@@ -1,3 +1,5 @@
+-- `ledger_vectors::run` meets its contract.
+-- Assumes nothing.
 use Rattle.ledger_vectors.proofs.Loops.{for-cases}
 use Prim.Native.Nat.{_-_, _≤_}
 use lib.ListN.{length}

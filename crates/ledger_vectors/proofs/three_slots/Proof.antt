@@ -1,3 +1,5 @@
+-- `ledger_vectors::three_slots` meets its contract.
+-- Assumes nothing.
 use Rattle.ledger_vectors.proofs.Loops.{for-cases}
 use Prim.Native.Nat.{_-_, _≤_}
 use mathlib.Core.Path.{_≡_}

@@ -1,3 +1,5 @@
+-- `stream::length_at` meets its contract.
+-- Assumes nothing.
 use Rattle.stream.proofs.PartNeeds.{for-parts}
 use Rattle.stream.proofs.length_at.Statement.{statement}
 use Rattle.stream.proofs.length_at.Tie as tie

@@ -1,3 +1,5 @@
+-- `stream::number_at` meets its contract.
+-- Assumes nothing.
 use Rattle.stream.proofs.PartNeeds.{for-parts}
 use Rattle.stream.proofs.number_at.Statement.{statement}
 use Rattle.stream.proofs.number_at.Tie as tie

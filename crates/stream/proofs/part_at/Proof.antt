@@ -1,3 +1,5 @@
+-- `stream::part_at` meets its contract.
+-- Assumes nothing.
 use Rattle.stream.proofs.PartNeeds.{for-parts}
 use Rattle.stream.proofs.part_at.Statement.{statement}
 use Rattle.stream.proofs.part_at.Tie as tie

@@ -1,3 +1,5 @@
+-- `judge::fields::judge_plain` meets its contract.
+-- Assumes nothing.
 use Rattle.judge.proofs.LineNeeds.{for-plain}
 use Rattle.judge.proofs.fields.judge_plain.Statement.{statement}
 use Rattle.judge.proofs.fields.judge_plain.Tie as tie

@@ -1,3 +1,5 @@
+-- `judge::line::judge_field` meets its contract.
+-- Assumes nothing.
 use Rattle.judge.proofs.LineNeeds.{for-judge-field}
 use Rattle.judge.proofs.line.judge_field.Statement.{statement}
 use Rattle.judge.proofs.line.judge_field.Tie as tie

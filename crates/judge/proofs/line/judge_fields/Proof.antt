@@ -1,3 +1,5 @@
+-- `judge::line::judge_fields` meets its contract.
+-- Assumes nothing.
 use Rattle.judge.proofs.LineNeeds.{for-judge-fields}
 use Prim.Native.Nat.{_+_, _-_}
 use Rattle.judge.proofs.LineNeeds.{Going}

@@ -1,3 +1,5 @@
+-- `judge::look::day_in` meets its contract.
+-- Assumes nothing.
 use Rattle.judge.proofs.PassNeeds.{for-day-in}
 use Rattle.judge.proofs.look.day_in.Statement.{statement}
 use Rattle.judge.proofs.look.day_in.Tie as tie

@@ -1,3 +1,5 @@
+-- `judge::look::day_of` meets its contract.
+-- Assumes nothing.
 use Rattle.judge.proofs.PassNeeds.{for-day-of}
 use Rattle.judge.proofs.look.day_of.Statement.{statement}
 use Rattle.judge.proofs.look.day_of.Tie as tie

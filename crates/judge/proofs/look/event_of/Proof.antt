@@ -1,3 +1,5 @@
+-- `judge::look::event_of` meets its contract.
+-- Assumes nothing.
 use Rattle.judge.proofs.PassNeeds.{for-event-of}
 use Rattle.judge.proofs.look.event_of.Statement.{statement}
 use Rattle.judge.proofs.look.event_of.Tie as tie

@@ -1,3 +1,5 @@
+-- `judge::look::facts_of` meets its contract.
+-- Assumes nothing.
 use Rattle.judge.proofs.PassNeeds.{for-facts-of}
 use Rattle.judge.proofs.look.facts_of.Statement.{statement}
 use Rattle.judge.proofs.look.facts_of.Tie as tie

@@ -1,3 +1,5 @@
+-- `judge::pass::judge_line` meets its contract.
+-- Assumes nothing.
 use Rattle.judge.proofs.PassNeeds.{for-judge-line}
 use Rattle.judge.proofs.pass.judge_line.Statement.{statement}
 use Rattle.judge.proofs.pass.judge_line.Tie as tie

@@ -1,3 +1,5 @@
+-- `judge::pass::own_end` meets its contract.
+-- Assumes nothing.
 use Rattle.judge.proofs.PassNeeds.{for-own-end}
 use Rattle.judge.proofs.pass.own_end.Statement.{statement}
 use Rattle.judge.proofs.pass.own_end.Tie as tie

@@ -1,3 +1,5 @@
+-- `judge::vaccine::judge_ii` meets its contract.
+-- Assumes nothing.
 use Rattle.judge.proofs.VaccineNeeds.{for-judge-ii}
 use Rattle.judge.proofs.vaccine.judge_ii.Statement.{statement}
 use Rattle.judge.proofs.vaccine.judge_ii.Tie as tie

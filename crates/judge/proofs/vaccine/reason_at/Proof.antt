@@ -1,3 +1,5 @@
+-- `judge::vaccine::reason_at` meets its contract.
+-- Assumes nothing.
 use Rattle.judge.proofs.VaccineNeeds.{for-parts}
 use Rattle.judge.proofs.vaccine.reason_at.Statement.{statement}
 use Rattle.judge.proofs.vaccine.reason_at.Tie as tie

@@ -1,3 +1,5 @@
+-- `judge::vaccine::vaccine_at` meets its contract.
+-- Assumes nothing.
 use Rattle.judge.proofs.VaccineNeeds.{for-parts}
 use Rattle.judge.proofs.vaccine.vaccine_at.Statement.{statement}
 use Rattle.judge.proofs.vaccine.vaccine_at.Tie as tie

@@ -1,3 +1,5 @@
+-- `lines::faults::is_printable` meets its contract.
+-- Assumes nothing.
 use Rattle.lines.proofs.FaultNeeds.{for-is-printable}
 use Prim.Native.Nat.{_-_}
 use mathlib.Core.Path.{_≡_}

@@ -1,3 +1,5 @@
+-- `lines::faults::kind_cause` meets its contract.
+-- Assumes nothing.
 use Rattle.lines.proofs.FaultNeeds.{for-kind-cause}
 use Rattle.lines.proofs.faults.kind_cause.Statement.{statement}
 use Rattle.lines.proofs.faults.kind_cause.Tie as tie

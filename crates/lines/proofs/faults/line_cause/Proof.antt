@@ -1,3 +1,5 @@
+-- `lines::faults::line_cause` meets its contract.
+-- Assumes nothing.
 use Rattle.lines.proofs.FaultNeeds.{for-line-cause}
 use Rattle.lines.proofs.faults.line_cause.Statement.{statement}
 use Rattle.lines.proofs.faults.line_cause.Tie as tie

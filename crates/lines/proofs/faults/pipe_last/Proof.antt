@@ -1,3 +1,5 @@
+-- `lines::faults::pipe_last` meets its contract.
+-- Assumes nothing.
 use Rattle.lines.proofs.FaultNeeds.{for-pipe-last}
 use Rattle.lines.proofs.faults.pipe_last.Statement.{statement}
 use Rattle.lines.proofs.faults.pipe_last.Tie as tie

@@ -1,3 +1,5 @@
+-- `lines::faults::shape_of` meets its contract.
+-- Assumes nothing.
 use Rattle.lines.proofs.FaultNeeds.{for-shape-of}
 use Prim.Native.Nat.{_-_, _≤_, _+_}
 use mathlib.Core.Path.{_≡_}

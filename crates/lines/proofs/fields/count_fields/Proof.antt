@@ -1,3 +1,5 @@
+-- `lines::fields::count_fields` meets its contract.
+-- Assumes nothing.
 use Rattle.lines.proofs.FieldNeeds.{for-count-fields}
 use mathlib.Core.Logic.{⊎-elim}
 use Prim.Native.Nat.{_-_, _≤_, _+_}

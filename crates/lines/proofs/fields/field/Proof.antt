@@ -1,3 +1,5 @@
+-- `lines::fields::field` meets its contract.
+-- Assumes nothing.
 use Rattle.lines.proofs.FieldNeeds.{for-field}
 use Rattle.lines.proofs.fields.field.Statement.{statement}
 use Rattle.lines.proofs.fields.field.Tie as tie

@@ -1,3 +1,5 @@
+-- `lines::fields::field_of` meets its contract.
+-- Assumes nothing.
 use Rattle.lines.proofs.FieldNeeds.{for-field-of}
 use Rattle.lines.proofs.fields.field_of.Statement.{statement}
 use Rattle.lines.proofs.fields.field_of.Tie as tie

@@ -1,3 +1,5 @@
+-- `lines::fields::field_position` meets its contract.
+-- Assumes nothing.
 use Rattle.lines.proofs.FieldNeeds.{for-field-position}
 use Rattle.lines.proofs.fields.field_position.Statement.{statement}
 use Rattle.lines.proofs.fields.field_position.Tie as tie

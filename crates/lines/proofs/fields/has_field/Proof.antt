@@ -1,3 +1,5 @@
+-- `lines::fields::has_field` meets its contract.
+-- Assumes nothing.
 use Rattle.lines.proofs.FieldNeeds.{for-field}
 use Rattle.lines.proofs.fields.has_field.Statement.{statement}
 use Rattle.lines.proofs.fields.has_field.Tie as tie

@@ -1,3 +1,5 @@
+-- `lines::fields::pipe_from` meets its contract.
+-- Assumes nothing.
 use Rattle.lines.proofs.FieldNeeds.{for-pipe-from}
 use Prim.Native.Nat.{_-_, _+_}
 use mathlib.Core.Path.{_≡_}

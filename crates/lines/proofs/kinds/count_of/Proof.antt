@@ -1,3 +1,5 @@
+-- `lines::kinds::count_of` meets its contract.
+-- Assumes nothing.
 use Rattle.lines.proofs.KindNeeds.{for-kind}
 use Rattle.lines.specs.Records.{countOf}
 use Rattle.lines.proofs.kinds.count_of.Statement.{statement}

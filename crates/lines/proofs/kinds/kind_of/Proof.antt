@@ -1,3 +1,5 @@
+-- `lines::kinds::kind_of` meets its contract.
+-- Assumes nothing.
 use Rattle.lines.proofs.KindNeeds.{for-kind-of}
 use Rattle.lines.proofs.kinds.kind_of.Statement.{statement}
 use Rattle.lines.proofs.kinds.kind_of.Tie as tie

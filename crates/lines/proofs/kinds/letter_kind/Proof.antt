@@ -1,3 +1,5 @@
+-- `lines::kinds::letter_kind` meets its contract.
+-- Assumes nothing.
 use Rattle.lines.proofs.KindNeeds.{for-kind}
 use Rattle.lines.specs.Records.{letterKind}
 use Rattle.lines.proofs.kinds.letter_kind.Statement.{statement}

@@ -1,3 +1,5 @@
+-- `lines::kinds::may_follow` meets its contract.
+-- Assumes nothing.
 use Rattle.lines.proofs.KindNeeds.{for-kind}
 use Rattle.lines.specs.Shape.{follows}
 use Rattle.lines.proofs.kinds.may_follow.Statement.{statement}

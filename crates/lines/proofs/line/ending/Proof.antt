@@ -1,3 +1,5 @@
+-- `lines::line::ending` meets its contract.
+-- Assumes nothing.
 use Rattle.lines.proofs.LineNeeds.{for-ending}
 use Rattle.lines.proofs.line.ending.Statement.{statement}
 use Rattle.lines.proofs.line.ending.Tie as tie

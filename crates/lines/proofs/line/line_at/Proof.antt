@@ -1,3 +1,5 @@
+-- `lines::line::line_at` meets its contract.
+-- Assumes nothing.
 use Rattle.lines.proofs.LineNeeds.{for-line-at}
 use Rattle.lines.proofs.line.line_at.Statement.{statement}
 use Rattle.lines.proofs.line.line_at.Tie as tie

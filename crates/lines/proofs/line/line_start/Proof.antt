@@ -1,3 +1,5 @@
+-- `lines::line::line_start` meets its contract.
+-- Assumes nothing.
 use Rattle.lines.proofs.LineNeeds.{for-line-start}
 use Prim.Native.Nat.{_-_, _≤_, _+_}
 use mathlib.Core.Path.{_≡_}

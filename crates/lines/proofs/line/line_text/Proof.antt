@@ -1,3 +1,5 @@
+-- `lines::line::line_text` meets its contract.
+-- Assumes nothing.
 use Rattle.lines.proofs.LineNeeds.{for-line-text}
 use Rattle.lines.proofs.line.line_text.Statement.{statement}
 use Rattle.lines.proofs.line.line_text.Tie as tie

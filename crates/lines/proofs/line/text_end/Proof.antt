@@ -1,3 +1,5 @@
+-- `lines::line::text_end` meets its contract.
+-- Assumes nothing.
 use Rattle.lines.proofs.LineNeeds.{for-text-end}
 use Prim.Native.Nat.{_-_, _+_}
 use mathlib.Core.Path.{_≡_}

@@ -1,0 +1,23 @@
+-- `judge::pass::judge` meets its contract.
+-- Assumes nothing.
+use Rattle.judge.proofs.JudgeNeeds.{for-judge}
+use Rattle.judge.proofs.pass.judge.Statement.{statement}
+use Rattle.judge.proofs.pass.judge.Tie as tie
+
+pub judge-spec : {M : Type 1} → statement M
+judge-spec =
+    tie.close
+    (tie.spec
+    (λ c. search for-judge)
+    (λ c. search for-judge)
+    (λ c. search for-judge)
+    (λ c. search for-judge)
+    (λ c. search for-judge)
+    (λ c. search for-judge)
+    (λ c. search for-judge)
+    (λ c κs. (search for-judge, search for-judge))
+    (λ c. search for-judge)
+    (λ c. (search for-judge, (search for-judge, search for-judge)))
+    (λ c. search for-judge)
+    (λ c. search for-judge)
+    (λ c. (search for-judge, (search for-judge, search for-judge))))
