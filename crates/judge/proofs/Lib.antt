@@ -22,4 +22,6 @@ mod LineNeeds
 mod PassNeeds
 mod TurnNeeds
 mod JudgeNeeds
+-- No second answer
+mod OneAnswer
 mod VaccineNeeds
