@@ -196,9 +196,9 @@ def broken(line, f, today, book, live, all_blocks):
 
 
 def findings(today, file, book, live):
-    """Every broken rule as (line, field, rule), in that order; how many blocks and IN records there are."""
+    """Every broken rule as (line, field, rule), in that order; the blocks; how many IN records there are."""
     lines = records(file)
     all_blocks = blocks(lines)
     book = Book(book)
     found = [(line.number, f, r) for line in lines for f in sorted(FORM[line.kind]) for r in broken(line, f, today, book, live, all_blocks)]
-    return found, len(all_blocks), sum(line.kind == "IN" for line in lines)
+    return found, all_blocks, sum(line.kind == "IN" for line in lines)

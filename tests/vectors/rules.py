@@ -2,11 +2,15 @@
 """Writes the vectors of the program crates/rules_vectors: files to judge (stdin) and what must be printed of them (stdout).
 
 Each vector is a valid file with an edit, and says by hand what must be found; `document.findings` must find the same. Every (kind, field, rule)
-that document 01 allows is reached. usage: tests/vectors/rules.py (in the project's root)"""
+that document 01 allows is reached. usage, in the project's root:
+tests/vectors/rules.py: writes them
+tests/vectors/rules.py PROGRAM..: holds a batch program (tests/differential/README.md) against them, as whole checks"""
 import struct
+import subprocess
+import sys
 
-from document import FORM, METHODS, NUMBERED, SITES, findings
-from make import BOOK_E, book_ok, entry, event, ledger_ok, live_in, num, part, shape, write
+from document import FORM, METHODS, NUMBERED, SITES, findings, named
+from make import BOOK_E, book_ok, entry, event, ledger_ok, num, part, shape, write
 
 # The two files that the vectors edit. A # stands for the record's number, which is its place among IP, II, IE, IN and IA lines.
 
@@ -42,15 +46,17 @@ IA|#|987654321|TESTA|
 IA|#|987654321|TESTB|
 IF|19|0|
 """
-BOOK_N = BOOK_E + [entry(2, b"TESTB"), entry(6, b"REF"), entry(8, b"TESTV", b"TESTB"), entry(1, b"TESTW"), entry(3, b"51"), entry(8, b"TESTW", b"TESTA")]
+BOOK_N = BOOK_E + [entry(1, b"TESTW"), entry(2, b"TESTB"), entry(3, b"00"), entry(3, b"02"), entry(3, b"51"), entry(6, b"REF"), entry(7, b"TESTV", b"02"),
+                   entry(8, b"TESTV", b"TESTB"), entry(8, b"TESTW", b"TESTA")]
 X = (b"123456789", b"20220901", b"TESTV")  # the event that File E adds
 
 
 class Case:
-    """What is judged: the file, the book, what is live, today, for how many blocks there is room, the bytes of the findings area."""
+    """What is judged: the file, the book, what is live, how many slots are free, today, for how many blocks there is room, the bytes of the
+    findings area."""
 
-    def __init__(self, lines, book, live=(), today=20220930, room=20, area=600):
-        self.lines, self.book, self.live, self.today, self.room, self.area = lines, book, live, today, room, area
+    def __init__(self, lines, book, live=(), free=1, today=20220930, room=20, area=600):
+        self.lines, self.book, self.live, self.free, self.today, self.room, self.area = lines, book, live, free, today, room, area
 
     def but(self, **changes):
         """The same case but for what is named."""
@@ -92,7 +98,10 @@ class Case:
         return b"".join(sorted(self.book))
 
     def ledger(self):
-        return b"".join(b"\x01" + e for e in sorted(event(*e) for e in self.live)) + bytes(38)
+        return b"".join(b"\x01" + e for e in sorted(event(*e) for e in self.live)) + bytes(38 * self.free)
+
+    def judged(self):
+        return findings(self.today, self.file(), self.book_bytes(), [event(*e) for e in self.live])
 
 
 E, N = Case.of(FILE_E, BOOK_E), Case.of(FILE_N, BOOK_N)
@@ -187,15 +196,17 @@ VECTORS = [
     ("another antigen in the second lot", N.set(11, 4, "TESTB").set(10, 6, "20220901").set(10, 15, "L3").set(7, 15, "L4"), "10/8/13"),
     ("an antigen less in the second lot", N.set(10, 6, "20220901").set(10, 15, "L3"), "10/8/13"),
     ("held against the first of the block, not the one before", patient(ii(lot="1"), ii(lot="2", antigens="TESTB 1"), ii(lot="3")), "6/8/13"),
+    ("sets, not lists: an antigen given twice is once in its set", patient(ii(lot="1", antigens="TESTA 1, TESTA 1"), ii(lot="2")), "6/4/12"),
     ("an unsound count: the sets are not held against each other", E.set(7, 5, "x"), "7/5/2"),
     ("an unsound count in the first: none is held against it", E.set(5, 5, ""), "5/5/1"),
     ("the event is named again, and each lot of it is told so", patient(ii(), ii(day="20220902"), ii(lot="L2"), ii(lot="L3")), "8/8/15 10/8/15"),
     ("an II in no block ends the block", patient(ii(), ii(kind="x", lot="L2"), ii(lot="L3")), "6/4/2 8/8/15"),
+    ("an II in no block names no event", patient(ii(kind="x"), ii()), "4/4/2"),
     ("another type is another block of the same event", E.set(6, 4, "C").lend(X), "4/4/16 6/8/15"),
     # II 9 and 10
     ("no site", E.set(4, 9, ""), "4/9/1"),
     ("a site of five", E.set(4, 9, "LALAL"), "4/9/2"),
-    ("a site that is in no table", E.set(4, 9, "XX"), "4/9/4"),
+    ("a site that is in no table", E.set(4, 9, "XXXX"), "4/9/4"),
     ("a site in small letters", E.set(4, 9, "la"), "4/9/4"),
     ("every site but MO and NO", patient(*[ii(lot=s, site=s) for s in map(bytes.decode, SITES) if s not in ("MO", "NO")]), ""),
     ("every method but PO and IN", patient(*[ii(lot=m, method=m) for m in map(bytes.decode, METHODS) if m not in ("PO", "IN")]), ""),
@@ -208,6 +219,7 @@ VECTORS = [
     ("MO with PO, NO with IN", E.set(4, 9, "MO").set(4, 10, "PO").set(6, 9, "NO").set(6, 10, "IN"), ""),
     ("PO with no site: only that it is missing", E.set(4, 9, "").set(4, 10, "PO"), "4/9/1"),
     ("PO with an unsound site", E.set(4, 9, "L1").set(4, 10, "PO"), "4/9/2"),
+    ("MO with an unsound method", E.set(4, 9, "MO").set(4, 10, "P0"), "4/10/2"),
     ("no method", E.set(4, 10, ""), "4/10/1"),
     ("a method of four", E.set(4, 10, "IMIM"), "4/10/2"),
     ("a method that is in no table", E.set(4, 10, "XX"), "4/10/4"),
@@ -215,8 +227,10 @@ VECTORS = [
     ("no reason", E.set(4, 11, ""), "4/11/1"),
     ("P9: two blanks", E.set(4, 11, "  "), "4/11/2"),
     ("a digit and a blank", E.set(4, 11, "5 "), "4/11/2"),
+    ("a reason of three digits", E.set(4, 11, "050"), "4/11/2"),
     ("a reason that the book has not", E.set(4, 11, "49"), "4/11/4"),
-    ("P9: 2 and blank 2 read 02", E.set(4, 11, "2").set(6, 11, " 2"), "4/11/4 6/11/4"),
+    ("P9: 2 and blank 2 read 02, which Book E has not", E.set(4, 11, "2").set(6, 11, " 2"), "4/11/4 6/11/4"),
+    ("P9: 2 and blank 2 read 02, which Book N has", N.set(4, 11, "2").set(7, 11, " 2"), ""),
     ("a reason that has ended", E.ended("20220831", 3, b"50"), "4/11/5 6/11/5"),
     ("a known reason without its pair", N.set(4, 11, "51"), "4/11/11"),
     ("a pair that has ended", E.ended("20220831", 7, b"TESTV", b"50"), "4/11/11 6/11/11"),
@@ -235,7 +249,8 @@ VECTORS = [
     ("P8: 0.01 and 999999.99", E.set(4, 12, "0.01").set(6, 12, "999999.99"), ""),
     ("no dosage type", E.set(4, 13, ""), "4/13/1"),
     ("a dosage type with a digit", E.set(4, 13, "M1"), "4/13/2"),
-    ("a dosage type that the book has not", E.set(4, 13, "MG"), "4/13/4"),
+    ("a dosage type of five", E.set(4, 13, "MLMLM"), "4/13/2"),
+    ("a dosage type that the book has not", E.set(4, 13, "DOSE"), "4/13/4"),
     ("a dosage type that has ended", E.ended("20220831", 5, b"ML"), "4/13/5 6/13/5"),
     ("no manufacturer", E.set(4, 14, ""), "4/14/1"),
     ("a manufacturer of four", E.set(4, 14, "GSKK"), "4/14/2"),
@@ -245,12 +260,15 @@ VECTORS = [
     ("a lot with a blank", E.set(4, 15, "L 1"), "4/15/2"),
     ("a lot of twenty-one", E.set(4, 15, "L" * 21), "4/15/2"),
     ("P2: the lot again", E.set(6, 15, "L1"), "6/15/14"),
+    ("an unsound lot is not held against another", E.set(4, 15, "L 1").set(6, 15, "L 1"), "4/15/2 6/15/2"),
     ("two empty lots that must not be empty: only that they are missing", E.set(4, 15, "").set(6, 15, ""), "4/15/1 6/15/1"),
     ("two empty lots of relaxed events are the same", E.set(4, 5, "H").set(6, 5, "H").set(4, 15, "").set(6, 15, ""), "6/15/14"),
     ("the same lot in another block is no matter", patient(ii(), ii(day="20220902")), ""),
     # Relaxed events: II 9 to 15 may be empty
     ("relaxed: a method without a site", N.set(15, 10, "IM"), "15/9/10"),
     ("relaxed: a site without a method", N.set(15, 9, "LA"), "15/10/10"),
+    ("relaxed: PO without a site is not PO with another site", N.set(15, 10, "PO"), "15/9/10"),
+    ("relaxed: NO without a method is not NO with another method", N.set(15, 9, "NO"), "15/10/10"),
     ("relaxed: a dosage type without a dosage", N.set(15, 13, "ML"), "15/12/10"),
     ("relaxed: a dosage without its type", N.set(15, 12, "0.5"), "15/13/10"),
     ("relaxed: an unsound site asks for no method", N.set(15, 9, "L1"), "15/9/2"),
@@ -289,12 +307,13 @@ VECTORS = [
     ("the next patient's ULI", N.set(12, 3, "987654321"), "12/3/6"),
     ("no type", N.set(12, 4, ""), "12/4/1"),
     ("type X", N.set(12, 4, "X"), "12/4/2"),
-    ("no date: neither IN 6 nor its IA is held against it", N.set(12, 5, ""), "12/5/1"),
+    ("no date: its reason is not held against it, the other's is", N.set(12, 5, "").ended("20220831", 6, b"REF"), "12/5/1 17/6/5"),
     ("no such month", N.set(12, 5, "20221301"), "12/5/2"),
     ("tomorrow", N.set(12, 5, "20221001"), "12/5/8"),
     ("before birth", N.set(17, 5, "20160229"), "17/5/8"),
     ("no reason", N.set(12, 6, ""), "12/6/1"),
     ("a reason with a digit", N.set(12, 6, "RE1"), "12/6/2"),
+    ("a reason of four", N.set(12, 6, "REFU"), "12/6/2"),
     ("a reason that the book has not", N.set(12, 6, "RE"), "12/6/4"),
     ("a reason that has ended between the two", N.ended("20220901", 6, b"REF"), "17/6/5"),
     ("no organization", N.set(12, 7, ""), "12/7/1"),
@@ -338,7 +357,7 @@ VECTORS = [
     ("feared: a later rule on an unsound type (16)", E.set(6, 4, "A ").lend(X), "4/4/16 6/4/2"),
     ("feared: a later rule on an unsound date (8, and 5 of its codes)", E.set(6, 6, "2023").ended("20220831", 4, b"GSK"), "4/14/5 6/6/2"),
     ("feared: FULL by order of lines, when a later delete makes the room",
-     patient(ii(day="20220902"), ii(kind="D")).lend(X), ""),
+     patient(ii(day="20220902"), ii(kind="D")).lend(X).but(free=0), ""),
     # The findings area, and room for the blocks
     ("an area for two findings and five bytes of a third", E.set(2, 2, "").set(2, 3, "").set(8, 2, "").but(area=17), "2/2/1 2/3/1 8/2/1"),
     ("an area for two findings", E.set(2, 2, "").set(2, 3, "").set(8, 2, "").but(area=12), "2/2/1 2/3/1 8/2/1"),
@@ -359,30 +378,70 @@ NEVER = {("IV", 2, 2), ("IF", 3, 2), ("II", 5, 1), ("IN", 8, 1)}
 ALLOWED = {(k, f, r) for k in FORM for f in FORM[k] for r in {1, 2} | PLACED.get((k, f), set())} - NEVER | {("IV", 2, 3)}
 
 
-def said_of(case, found, count, declined):
+def said_of(case, found, blocks, declined):
     """What the program prints: the numbers, the findings that fit, and that the area's other bytes stay."""
-    if count > case.room:
+    if len(blocks) > case.room:
         return b"too-many \nkept"
     kept = found[:case.area // 6]
-    return b"done " + num(count) + num(len(found)) + num(declined) + b"".join(b"\n%d %d %d " % place for place in kept) + b"\nkept"
+    return b"done " + num(len(blocks)) + num(len(found)) + num(declined) + b"".join(b"\n%d %d %d " % place for place in kept) + b"\nkept"
 
 
 def cases():
+    assert [(len(blocks), declined) for _, blocks, declined in (E.judged(), N.judged())] == [(1, 0), (3, 2)]
     written, reached = [], set()
     for why, case, places in VECTORS:
         file, book, ledger = case.file(), case.book_bytes(), case.ledger()
         assert shape(file) == num(0) and book_ok(book) and ledger_ok(ledger), why
-        found, count, declined = findings(case.today, file, book, live_in(ledger))
+        found, blocks, declined = case.judged()
         if places is None:
-            assert count > case.room, why
+            assert len(blocks) > case.room, why
         else:
             assert found == [tuple(map(int, place.split("/"))) for place in places.split()], (why, found)
             reached |= {(case.lines[n - 1][0].decode(), f, r) for n, f, r in found}
         numbers = struct.pack("<III", case.today, case.room, case.area)
-        written.append((part(file) + part(part(numbers) + part(book) + part(ledger)), said_of(case, found, count, declined)))
+        written.append((part(file) + part(part(numbers) + part(book) + part(ledger)), said_of(case, found, blocks, declined)))
     assert reached == ALLOWED and len(ALLOWED) == 110, (ALLOWED - reached, reached - ALLOWED)
     return written
 
 
+# The vectors as whole checks, for a batch program
+
+
+def fnv_1a(data):
+    h = 0xCBF29CE484222325
+    for b in data:
+        h = (h ^ b) * 0x100000001B3 % 2**64
+    return h
+
+
+def verdict(case):
+    """The eight numbers, and the ledger and the findings area after."""
+    found, blocks, declined = case.judged()
+    of_kind = {k: [event(*named(b[0])) for b in blocks if b[0][4] == k] for k in (b"A", b"C", b"D")}
+    if found:
+        kept = b"".join(struct.pack("<BIB", r, n, f) for n, f, r in found[:case.area // 6])
+        return [6, 0, 0, len(found), 0, 0, 0, 0], case.ledger(), kept + b"\xee" * (case.area - len(kept))
+    after = sorted({event(*e) for e in case.live} - set(of_kind[b"D"]) | set(of_kind[b"A"]))
+    ledger = b"".join(b"\x01" + e for e in after)
+    return [0, 0, 0, 0, *map(len, of_kind.values()), declined], ledger + bytes(len(case.ledger()) - len(ledger)), b"\xee" * case.area
+
+
+def against(command):
+    whole = [(why, case.but(free=200 if case.free else 0)) for why, case, _ in VECTORS]
+    stream = b"".join(struct.pack("<I", c.today) + part(c.file()) + part(c.book_bytes()) + part(c.ledger()) + struct.pack("<I", c.area) for _, c in whole)
+    printed = subprocess.run(command, input=stream, stdout=subprocess.PIPE, check=True).stdout.decode().splitlines()
+    failed = len(whole) != len(printed)
+    for (why, case), line in zip(whole, printed):
+        numbers, ledger, area = verdict(case)
+        words = line.split()
+        if [int(w) for w in words[:8]] != numbers or [int(w, 16) for w in words[8:]] != [fnv_1a(ledger), fnv_1a(area)]:
+            print("differs:", why, line, numbers)
+            failed = True
+    print(f"{len(whole)} vectors,", "not all" if failed else "all", "as they must be")
+    return failed
+
+
 if __name__ == "__main__":
+    if sys.argv[1:]:
+        sys.exit(against(sys.argv[1:]))
     write("rules_vectors", cases())
