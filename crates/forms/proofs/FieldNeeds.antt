@@ -15,8 +15,8 @@ use Rattle.lines.specs.Lines.{fieldsOf, fieldOf}
 use Rattle.lines.specs.Records.{Rec, recOf}
 use Rattle.rules.specs.Forms.{anything, table, formOf, isJudged, relaxedBy, isOptional, isMissing, isMisformed, isSound, isGiven}
 use Rattle.rules.specs.Rules.{lacks}
+use Rattle.texts.proofs.TextLaws.{within-yes, within-low, within-high}
 use Rattle.forms.specs.Leaves.{refusedBy, lowest}
-use Rattle.forms.proofs.TextNeeds.{within-yes, within-low, within-high}
 use Rattle.forms.proofs.FieldLaws.{text-is, field-is, relaxed-is, empty-true, empty-false}
 
 pub same-either : (b : Bool) → true ≡ cond b true true

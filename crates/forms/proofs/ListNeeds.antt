@@ -18,8 +18,9 @@ use Rattle.lines.proofs.LineLaws.{left-falls}
 use Rattle.lines.proofs.PartLaws.{recs-past, recs-on}
 use Rattle.rules.specs.Forms.{text, countForm, isCount, isSound}
 use Rattle.rules.specs.Rules.{sameAntigen, doseOf, sameCount, allIn, countsSound, setsDiffer, sameLot}
-use Rattle.forms.specs.Leaves.{valueOf, antigenIs, lotIs, countIn, soundCount}
-use Rattle.forms.proofs.TextNeeds.{value-run}
+use Rattle.texts.specs.Leaves.{valueOf}
+use Rattle.texts.proofs.TextLaws.{value-run}
+use Rattle.forms.specs.Leaves.{antigenIs, lotIs, countIn, soundCount}
 use Rattle.forms.proofs.FieldLaws.{text-is, kind-is}
 
 -- Loops over lines that ask the same of each

@@ -1,48 +1,92 @@
 -- No second answer meets the contract of a public function: each contract is an equation with what a definition gives.
 -- Assumes nothing.
 use mathlib.Core.Path.{_≡_, sym, _∙_}
-use mathlib.Core.Bool.{Bool}
-use mathlib.Core.List.{List}
 use Prim.Native.Nat.{ℕ}
-use Rattle.house.specs.Text.{Text}
-use Rattle.lines.specs.Records.{Rec, recOf, recs}
+use Rattle.house.specs.Text.{Text, any, those}
+use Rattle.lines.specs.Lines.{fieldsOf}
+use Rattle.lines.specs.Records.{recOf, recs, isKind}
+use Rattle.rules.specs.Forms.{formOf, isJudged, relaxedBy, isOptional, isMissing, isMisformed, isSound, isGiven}
+use Rattle.rules.specs.Blocks.{isInBlock, sameEvent, joins as Joins}
+use Rattle.rules.specs.Rules.{lacks as Lacks, sameAntigen, doseOf, sameCount, countsSound, setsDiffer, sameLot}
+use Rattle.forms.specs.Leaves.{basicRule, numberRule, uliRule, dayRule, dateRule, versionRule, lotRule}
 
-one : {A : Type 0} {x r q : A} → r ≡ x → q ≡ x → r ≡ q
-one e f = e ∙ sym f
+abbrev One : {A : Type 0} → A → Type 0
+One {A} x = (r q : A) → r ≡ x → q ≡ x → r ≡ q
 
--- the tests on a text: the forms, is_site, is_method
-text-test : (test : Text → Bool) (t : Text) (r q : Bool) → r ≡ test t → q ≡ test t → r ≡ q
-text-test test t r q = one
+one : {A : Type 0} (x : A) → One x
+one x r q e f = e ∙ sym f
 
--- value
-text-number : (number : Text → ℕ) (t : Text) (r q : ℕ) → r ≡ number t → q ≡ number t → r ≡ q
-text-number number t r q = one
+form-of : (k f : ℕ) (t : Text) → One (formOf k f t)
+form-of k f t = one _
 
--- reason_read
-text-text : (read : Text → Text) (t : Text) (r q : Text) → r ≡ read t → q ≡ read t → r ≡ q
-text-text read t r q = one
+is-judged : (k f : ℕ) → One (isJudged k f)
+is-judged k f = one _
 
--- site_wrong, method_wrong
-texts-test : (test : Text → Text → Bool) (s t : Text) (r q : Bool) → r ≡ test s t → q ≡ test s t → r ≡ q
-texts-test test s t r q = one
+relaxed : (t : Text) → One (relaxedBy (fieldsOf t))
+relaxed t = one _
 
--- form_of, is_judged
-form-test : (test : ℕ → ℕ → Text → Bool) (k f : ℕ) (t : Text) (r q : Bool) → r ≡ test k f t → q ≡ test k f t → r ≡ q
-form-test test k f t r q = one
+is-optional : (k : ℕ) (t : Text) (f : ℕ) → One (isOptional k (recOf t) f)
+is-optional k t f = one _
 
--- is_optional, is_missing, is_misformed, is_sound, is_given, lacks, relaxed, in_block: of a field of a line, or of the line
-field-test : (test : ℕ → Rec → ℕ → Bool) (k : ℕ) (t : Text) (f : ℕ) (r q : Bool) → r ≡ test k (recOf t) f → q ≡ test k (recOf t) f → r ≡ q
-field-test test k t f r q = one
+is-missing : (k : ℕ) (t : Text) (f : ℕ) → One (isMissing k (recOf t) f)
+is-missing k t f = one _
 
--- basic_rule, number_rule, day_rule, version_rule, dose_of: a number of a line
-field-number : (number : ℕ → Rec → ℕ → ℕ) (k : ℕ) (t : Text) (f : ℕ) (r q : ℕ) → r ≡ number k (recOf t) f → q ≡ number k (recOf t) f → r ≡ q
-field-number number k t f r q = one
+is-misformed : (k : ℕ) (t : Text) (f : ℕ) → One (isMisformed k (recOf t) f)
+is-misformed k t f = one _
 
--- uli_rule, date_rule, lot_rule: a number of a line and of others
-lines-number : (number : ℕ → Rec → ℕ → ℕ → List Rec → ℕ) (k : ℕ) (t : Text) (f d : ℕ) (s : Text) (r q : ℕ)
-    → r ≡ number k (recOf t) f d (recs s) → q ≡ number k (recOf t) f d (recs s) → r ≡ q
-lines-number number k t f d s r q = one
+basic-rule : (k : ℕ) (t : Text) (f : ℕ) → One (basicRule k (recOf t) f)
+basic-rule k t f = one _
 
--- same_event, joins, same_count, any_antigen, any_lot: of a line and others; counts_sound, sets_differ: of lines and others
-lines-test : (test : List Rec → List Rec → Bool) (s t : Text) (r q : Bool) → r ≡ test (recs s) (recs t) → q ≡ test (recs s) (recs t) → r ≡ q
-lines-test test s t r q = one
+is-sound : (k : ℕ) (t : Text) (f : ℕ) → One (isSound k (recOf t) f)
+is-sound k t f = one _
+
+is-given : (k : ℕ) (t : Text) (f : ℕ) → One (isGiven k (recOf t) f)
+is-given k t f = one _
+
+lacks : (t : Text) (f g : ℕ) → One (Lacks (recOf t) f g)
+lacks t f g = one _
+
+number-rule : (k : ℕ) (t : Text) (place : ℕ) → One (numberRule k (recOf t) place)
+number-rule k t place = one _
+
+uli-rule : (k : ℕ) (t ip : Text) → One (uliRule k (recOf t) (recOf ip))
+uli-rule k t ip = one _
+
+day-rule : (t : Text) (today : ℕ) → One (dayRule (recOf t) today)
+day-rule t today = one _
+
+date-rule : (k : ℕ) (t : Text) (f today : ℕ) (ip : Text) → One (dateRule k (recOf t) f today (recOf ip))
+date-rule k t f today ip = one _
+
+version-rule : (t : Text) → One (versionRule (recOf t))
+version-rule t = one _
+
+lot-rule : (t block : Text) → One (lotRule (recOf t) (recs block))
+lot-rule t block = one _
+
+any-antigen : (t since : Text) → One (any (sameAntigen (recOf t)) (recs since))
+any-antigen t since = one _
+
+any-lot : (t block : Text) → One (any (sameLot (recOf t)) (those (isKind 4) (recs block)))
+any-lot t block = one _
+
+dose-of : (t : Text) → One (doseOf (recOf t))
+dose-of t = one _
+
+same-count : (t u : Text) → One (sameCount (recOf t) (recOf u))
+same-count t u = one _
+
+sets-differ : (own first : Text) → One (setsDiffer (recs own) (recs first))
+sets-differ own first = one _
+
+counts-sound : (t : Text) → One (countsSound (recs t))
+counts-sound t = one _
+
+same-event : (t u : Text) → One (sameEvent (recOf t) (recOf u))
+same-event t u = one _
+
+joins : (t u : Text) → One (Joins (recOf t) (recOf u))
+joins t u = one _
+
+in-block : (t : Text) → One (isInBlock (recOf t))
+in-block t = one _

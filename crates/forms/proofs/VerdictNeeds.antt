@@ -19,7 +19,8 @@ use Rattle.lines.specs.Lines.{fieldOf}
 use Rattle.lines.specs.Records.{Rec, recOf, isKind}
 use Rattle.rules.specs.Forms.{text, isMissing, isMisformed, isSound}
 use Rattle.rules.specs.Rules.{sameLot}
-use Rattle.forms.specs.Leaves.{lowest, valueOf, numberLater, uliLater, dayLater, bornAfter, dateLater, versionLater, lotLater}
+use Rattle.texts.specs.Leaves.{valueOf}
+use Rattle.forms.specs.Leaves.{lowest, numberLater, uliLater, dayLater, bornAfter, dateLater, versionLater, lotLater}
 use Rattle.forms.proofs.FieldLaws.{text-is}
 use Rattle.forms.proofs.SoundLaws.{ip-25}
 

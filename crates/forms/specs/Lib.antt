@@ -1,3 +1,3 @@
--- What the functions on texts and lines answer beside the rules' own definitions.
+-- What the functions on lines answer beside the rules' own definitions.
 -- Assumes nothing.
 pub mod Leaves

@@ -1,5 +1,4 @@
 // The fields of a line: the form that each takes, which are mandatory, and when one is sound.
-use crate::texts::*;
 use lines::IA;
 use lines::IE;
 use lines::IF;
@@ -8,6 +7,7 @@ use lines::II;
 use lines::IN;
 use lines::IP;
 use lines::IV;
+use texts::*;
 ghost use mathlib.Core.Path.{_≡_};
 ghost use Rattle.house.specs.Text.{within};
 ghost use Rattle.lines.specs.Lines.{fieldsOf};

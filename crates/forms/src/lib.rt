@@ -1,19 +1,12 @@
-// Forms: what is judged from texts alone, without code book, ledger or position.
+// Forms: what is judged from lines alone, without code book, ledger or position.
 mod blocks;
-mod codes;
 mod fields;
 mod lists;
-mod texts;
 mod verdicts;
 
 pub use blocks::in_block;
 pub use blocks::joins;
 pub use blocks::same_event;
-pub use codes::is_method;
-pub use codes::is_site;
-pub use codes::method_wrong;
-pub use codes::reason_read;
-pub use codes::site_wrong;
 pub use fields::basic_rule;
 pub use fields::form_of;
 pub use fields::is_given;
@@ -30,27 +23,6 @@ pub use lists::counts_sound;
 pub use lists::dose_of;
 pub use lists::same_count;
 pub use lists::sets_differ;
-pub use texts::is_batch;
-pub use texts::is_code;
-pub use texts::is_count;
-pub use texts::is_date;
-pub use texts::is_dosage;
-pub use texts::is_dosage_type;
-pub use texts::is_grade;
-pub use texts::is_historical;
-pub use texts::is_lot;
-pub use texts::is_manufacturer;
-pub use texts::is_method_text;
-pub use texts::is_number;
-pub use texts::is_organization;
-pub use texts::is_prefix;
-pub use texts::is_reason;
-pub use texts::is_reason_not;
-pub use texts::is_site_text;
-pub use texts::is_total;
-pub use texts::is_type;
-pub use texts::is_uli;
-pub use texts::value;
 pub use verdicts::date_rule;
 pub use verdicts::day_rule;
 pub use verdicts::lot_rule;

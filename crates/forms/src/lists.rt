@@ -1,9 +1,9 @@
 // What is asked of the lines of a part of the file: antigens, counts and lots given before.
 use crate::fields::is_sound;
-use crate::texts::is_count;
-use crate::texts::value;
 use lines::IE;
 use lines::II;
+use texts::is_count;
+use texts::value;
 ghost use mathlib.Core.Path.{_≡_};
 ghost use Rattle.house.specs.Text.{any, all, those};
 ghost use Rattle.lines.specs.Records.{recOf, recs, isKind};

@@ -2,10 +2,10 @@
 use crate::fields::basic_rule;
 use crate::fields::is_sound;
 use crate::lists::any_lot;
-use crate::texts::value;
 use lines::II;
 use lines::IP;
 use lines::IV;
+use texts::value;
 ghost use mathlib.Core.Path.{_≡_};
 ghost use Rattle.lines.specs.Records.{recOf, recs};
 ghost use Rattle.forms.specs.Leaves.{numberLater, numberRule, uliLater, uliRule, dayLater, dayRule, bornAfter, dateLater, dateRule, versionLater, versionRule, lotLater, lotRule};

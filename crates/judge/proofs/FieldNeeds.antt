@@ -20,7 +20,8 @@ use Rattle.rules.specs.Forms.{text, table, formOf, isJudged, isOptional, isMiss
 use Rattle.rules.specs.Seen.{Setting, Seen}
 use Rattle.rules.specs.Codes.{bookKind, codeRead, codeIn, dayIsSound, recordDay, isInForce}
 use Rattle.rules.specs.Rules.{afterToday, beforeBirth, brokenAt}
-use Rattle.forms.specs.Leaves.{valueOf, lowest, numberLater, numberRule, uliLater, uliRule, dayLater, dayRule, bornAfter, dateLater, dateRule, versionLater, versionRule}
+use Rattle.texts.specs.Leaves.{valueOf}
+use Rattle.forms.specs.Leaves.{lowest, numberLater, numberRule, uliLater, uliRule, dayLater, dayRule, bornAfter, dateLater, dateRule, versionLater, versionRule}
 use Rattle.forms.proofs.FieldLaws.{text-is}
 use Rattle.judge.specs.declared.Broken.{Broken}
 use Rattle.judge.specs.declared.Day.{Day}

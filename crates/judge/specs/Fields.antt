@@ -16,7 +16,8 @@ use Rattle.rules.specs.Blocks.{adds, changes, deletes}
 use Rattle.rules.specs.Seen.{Setting, Seen}
 use Rattle.rules.specs.Codes.{isSite, isMethod, reasonRead, dayIsSound, recordDay}
 use Rattle.rules.specs.Rules.{siteWrong, methodWrong, lacks, sameAntigen, countsSound, setsDiffer, rulesOf, brokenBy}
-use Rattle.forms.specs.Leaves.{lowest, valueOf}
+use Rattle.texts.specs.Leaves.{valueOf}
+use Rattle.forms.specs.Leaves.{lowest}
 use Rattle.judge.specs.declared.Broken.{Broken}
 use Rattle.judge.specs.declared.Day.{Day}
 use Rattle.judge.specs.declared.Facts.{Facts}

@@ -58,7 +58,7 @@ fn day_in(kind: u8, head: &[u8], f: usize) -> Day
     ensures { λ r. ⌜ r ≡ dayIn kind (now (head .entry)) f ⌝ }
 {
     let sound = forms::is_sound(kind, head, f);
-    let number = forms::value(lines::field_of(head, f));
+    let number = texts::value(lines::field_of(head, f));
     Day { sound, number }
 }
 

@@ -80,7 +80,7 @@ fn method_at(line: &[u8]) -> Broken
 fn reason_at(line: &[u8], book: &[u8], q: Sections, day: Day) -> Broken
     ensures { λ r. ⌜ r ≡ reasonAt (now (line .entry)) (now (book .entry)) q day ⌝ }
 {
-    let read = forms::reason_read(lines::field_of(line, 11));
+    let read = texts::reason_read(lines::field_of(line, 11));
     let a = code_rule(II, line, 11, 3, &read, book, q, day);
     let b = pair_rule(II, line, 11, 3, &read, 7, line, book, q, day);
     Broken { a, b, c: 0 }

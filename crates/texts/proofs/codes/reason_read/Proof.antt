@@ -1,0 +1,19 @@
+-- `texts::codes::reason_read` meets its contract.
+-- Assumes nothing.
+use Rattle.texts.proofs.CodeNeeds.{for-reason-read}
+use Rattle.texts.proofs.codes.reason_read.Statement.{statement}
+use Rattle.texts.proofs.codes.reason_read.Tie as tie
+
+pub reason-read-spec : {M : Type 1} → statement M
+reason-read-spec =
+    tie.close
+    (tie.spec
+    (λ c. search for-reason-read)
+    (λ c. search for-reason-read)
+    (λ c. search for-reason-read)
+    (λ c. search for-reason-read)
+    (λ c. search for-reason-read)
+    (λ c. search for-reason-read)
+    (λ c. search for-reason-read)
+    (λ c. search for-reason-read)
+    (λ c. search for-reason-read))

@@ -1,0 +1,18 @@
+-- `texts::codes::site_wrong` meets its contract.
+-- Assumes nothing.
+use Rattle.texts.proofs.CodeNeeds.{for-wrong}
+use Rattle.texts.proofs.codes.site_wrong.Statement.{statement}
+use Rattle.texts.proofs.codes.site_wrong.Tie as tie
+
+pub site-wrong-spec : {M : Type 1} → statement M
+site-wrong-spec =
+    tie.close
+    (tie.spec
+    (λ c. search for-wrong)
+    (λ c. search for-wrong)
+    (λ c. search for-wrong)
+    (λ c. search for-wrong)
+    (λ c. search for-wrong)
+    (λ c. search for-wrong)
+    (λ c. search for-wrong)
+    (λ c. search for-wrong))

@@ -1,0 +1,12 @@
+-- `texts::forms::is_batch` meets its contract.
+-- Assumes nothing.
+use Rattle.texts.proofs.TextNeeds.{for-form}
+use Rattle.texts.proofs.forms.is_batch.Statement.{statement}
+use Rattle.texts.proofs.forms.is_batch.Tie as tie
+
+pub is-batch-spec : {M : Type 1} → statement M
+is-batch-spec =
+    tie.close
+    (tie.spec
+    (λ c. search for-form)
+    (λ c. search for-form))

@@ -1,0 +1,12 @@
+-- `texts::forms::is_count` meets its contract.
+-- Assumes nothing.
+use Rattle.texts.proofs.TextNeeds.{for-form}
+use Rattle.texts.proofs.forms.is_count.Statement.{statement}
+use Rattle.texts.proofs.forms.is_count.Tie as tie
+
+pub is-count-spec : {M : Type 1} → statement M
+is-count-spec =
+    tie.close
+    (tie.spec
+    (λ c. search for-form)
+    (λ c. search for-form))

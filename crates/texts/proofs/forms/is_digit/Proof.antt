@@ -1,0 +1,13 @@
+-- `texts::forms::is_digit` meets its contract.
+-- Assumes nothing.
+use Rattle.texts.proofs.TextNeeds.{for-byte}
+use Rattle.texts.proofs.forms.is_digit.Statement.{statement}
+use Rattle.texts.proofs.forms.is_digit.Tie as tie
+
+pub is-digit-spec : {M : Type 1} → statement M
+is-digit-spec =
+    tie.close
+    (tie.spec
+    (λ c. search for-byte)
+    (λ c. search for-byte)
+    (λ c. search for-byte))

@@ -1,0 +1,20 @@
+-- `texts::forms::is_dosage` meets its contract.
+-- Assumes nothing.
+use Rattle.texts.proofs.TextNeeds.{for-dosage}
+use Rattle.texts.proofs.forms.is_dosage.Statement.{statement}
+use Rattle.texts.proofs.forms.is_dosage.Tie as tie
+
+pub is-dosage-spec : {M : Type 1} → statement M
+is-dosage-spec =
+    tie.close
+    (tie.spec
+    (λ c. search for-dosage)
+    (λ c. search for-dosage)
+    (λ c. search for-dosage)
+    (λ c. search for-dosage)
+    (λ c. search for-dosage)
+    (λ c. search for-dosage)
+    (λ c. search for-dosage)
+    (λ c. search for-dosage)
+    (λ c. search for-dosage)
+    (λ c. search for-dosage))

@@ -1,0 +1,18 @@
+-- `texts::forms::is_fraction` meets its contract.
+-- Assumes nothing.
+use Rattle.texts.proofs.TextNeeds.{for-fraction}
+use Rattle.texts.proofs.forms.is_fraction.Statement.{statement}
+use Rattle.texts.proofs.forms.is_fraction.Tie as tie
+
+pub is-fraction-spec : {M : Type 1} → statement M
+is-fraction-spec =
+    tie.close
+    (tie.spec
+    (λ c. search for-fraction)
+    (λ c. search for-fraction)
+    (λ c. search for-fraction)
+    (λ c. search for-fraction)
+    (λ c. search for-fraction)
+    (λ c. search for-fraction)
+    (λ c. search for-fraction)
+    (λ c. search for-fraction))

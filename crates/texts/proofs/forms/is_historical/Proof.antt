@@ -1,0 +1,13 @@
+-- `texts::forms::is_historical` meets its contract.
+-- Assumes nothing.
+use Rattle.texts.proofs.TextNeeds.{for-form}
+use Rattle.texts.proofs.forms.is_historical.Statement.{statement}
+use Rattle.texts.proofs.forms.is_historical.Tie as tie
+
+pub is-historical-spec : {M : Type 1} → statement M
+is-historical-spec =
+    tie.close
+    (tie.spec
+    (λ c. search for-form)
+    (λ c. search for-form)
+    (λ c. search for-form))

@@ -1,0 +1,12 @@
+-- `texts::forms::is_organization` meets its contract.
+-- Assumes nothing.
+use Rattle.texts.proofs.TextNeeds.{for-form}
+use Rattle.texts.proofs.forms.is_organization.Statement.{statement}
+use Rattle.texts.proofs.forms.is_organization.Tie as tie
+
+pub is-organization-spec : {M : Type 1} → statement M
+is-organization-spec =
+    tie.close
+    (tie.spec
+    (λ c. search for-form)
+    (λ c. search for-form))

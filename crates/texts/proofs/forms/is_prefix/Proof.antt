@@ -1,0 +1,12 @@
+-- `texts::forms::is_prefix` meets its contract.
+-- Assumes nothing.
+use Rattle.texts.proofs.TextNeeds.{for-form}
+use Rattle.texts.proofs.forms.is_prefix.Statement.{statement}
+use Rattle.texts.proofs.forms.is_prefix.Tie as tie
+
+pub is-prefix-spec : {M : Type 1} → statement M
+is-prefix-spec =
+    tie.close
+    (tie.spec
+    (λ c. search for-form)
+    (λ c. search for-form))

@@ -1,0 +1,20 @@
+-- `texts::forms::is_reason` meets its contract.
+-- Assumes nothing.
+use Rattle.texts.proofs.TextNeeds.{for-reason}
+use Rattle.texts.proofs.forms.is_reason.Statement.{statement}
+use Rattle.texts.proofs.forms.is_reason.Tie as tie
+
+pub is-reason-spec : {M : Type 1} → statement M
+is-reason-spec =
+    tie.close
+    (tie.spec
+    (λ c. search for-reason)
+    (λ c. search for-reason)
+    (λ c. search for-reason)
+    (λ c. search for-reason)
+    (λ c. search for-reason)
+    (λ c. search for-reason)
+    (λ c. search for-reason)
+    (λ c. search for-reason)
+    (λ c. search for-reason)
+    (λ c. search for-reason))

@@ -1,0 +1,16 @@
+-- `texts::forms::is_type` meets its contract.
+-- Assumes nothing.
+use Rattle.texts.proofs.TextNeeds.{for-type}
+use Rattle.texts.proofs.forms.is_type.Statement.{statement}
+use Rattle.texts.proofs.forms.is_type.Tie as tie
+
+pub is-type-spec : {M : Type 1} → statement M
+is-type-spec =
+    tie.close
+    (tie.spec
+    (λ c. search for-type)
+    (λ c. search for-type)
+    (λ c. search for-type)
+    (λ c. search for-type)
+    (λ c. search for-type)
+    (λ c. search for-type))

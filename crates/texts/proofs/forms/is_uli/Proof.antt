@@ -1,0 +1,12 @@
+-- `texts::forms::is_uli` meets its contract.
+-- Assumes nothing.
+use Rattle.texts.proofs.TextNeeds.{for-form}
+use Rattle.texts.proofs.forms.is_uli.Statement.{statement}
+use Rattle.texts.proofs.forms.is_uli.Tie as tie
+
+pub is-uli-spec : {M : Type 1} → statement M
+is-uli-spec =
+    tie.close
+    (tie.spec
+    (λ c. search for-form)
+    (λ c. search for-form))
