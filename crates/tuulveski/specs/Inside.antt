@@ -1,6 +1,6 @@
 -- Working definitions: the answer from one of its steps on, and what is known there. No public contract rests on this page.
 -- Assumes nothing.
-use Prim.Native.Nat.{ℕ, _+_, _≤_}
+use Prim.Native.Nat.{ℕ, _+_, _≤_, _<_}
 use mathlib.Core.Path.{_≡_}
 use mathlib.Core.Bool.{true, not, cond}
 use mathlib.Core.List.{List}
@@ -17,7 +17,8 @@ use Rattle.rules.specs.Blocks.{eventsOf, adds, changes, deletes}
 use Rattle.index.specs.Firsts.{firstsOf, indexOf}
 use Rattle.tuulveski.specs.declared.steps.Tally.{Tally}
 use Rattle.tuulveski.specs.declared.settling.Counts.{Counts}
-use Rattle.tuulveski.specs.declared.Answer.the-variants.{Ledger}
+use Rattle.tuulveski.specs.declared.Answer.{Answer}
+use Rattle.tuulveski.specs.declared.Answer.the-variants.{Accepted, Date, Long, Book, Ledger, Shape as BadShape, Findings, Full}
 use Rattle.tuulveski.specs.Answers.{Lent, Outcome, fileMost, findings, notImmunized, refused, shaped}
 
 -- with a well-formed ledger
@@ -77,3 +78,14 @@ pub record Judges (file ledger : Text) (live : ℕ) (t : Tally) (room : List ℕ
 -- what is live and added has room in the slots and those of the deleted
 pub record HasRoom (file ledger : Text) : Type 0 where
   pub fits : length (liveIn ledger) + length (eventsOf adds (placesIn file)) ≤ slotsIn ledger + length (eventsOf deletes (placesIn file))
+
+-- the numbers of the answer have 32 bits
+unfoldable pub Narrow : Answer → Type 0
+Narrow (Accepted a c d n) = (a < 4294967296) × (c < 4294967296) × (d < 4294967296) × (n < 4294967296)
+Narrow Date = Unit {0}
+Narrow Long = Unit {0}
+Narrow Book = Unit {0}
+Narrow Ledger = Unit {0}
+Narrow (BadShape n cause) = n < 4294967296
+Narrow (Findings n) = n < 4294967296
+Narrow Full = Unit {0}

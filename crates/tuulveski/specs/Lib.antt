@@ -1,4 +1,5 @@
 pub mod Answers
+pub mod Interface
 pub mod Inside
 pub mod Runs
 pub mod Examples

@@ -1,7 +1,10 @@
 // The check of a submission: one call over file, code book, ledger, findings area and today's date.
+mod interface;
 mod settling;
 mod steps;
 
+pub use interface::tuulveski_check;
+pub use interface::tuulveski_field;
 pub use steps::check;
 
 // The answers, by document 01's names; `numbersOf` in specs/ gives the paper's numbers of each.

@@ -1,0 +1,118 @@
+-- What each need of the C interface asks.
+-- Assumes nothing.
+use mathlib.Core.Path.{_≡_, sym, ap, _∙_, subst}
+use mathlib.Core.Bool.{Bool}
+use Prim.Native.Nat.{ℕ, _<_}
+use borrow.Author.Needs.{needs}
+use lib.ListN.{length}
+use Rattle.house.specs.Text.{Text}
+use Rattle.lines.specs.Lines.{fieldText, fieldThere, fieldPosition}
+use Rattle.tuulveski.specs.declared.interface.Numbers.{Numbers}
+use Rattle.tuulveski.specs.declared.Answer.{Answer}
+use Rattle.tuulveski.specs.declared.Answer.the-variants.{Accepted, Date, Long, Book, Ledger, Shape as BadShape, Findings, Full}
+use Rattle.tuulveski.specs.Answers.{Lent, Outcome, left, check, numbersOf}
+use Rattle.tuulveski.specs.Interface.{numbers, numbersIn, fieldAt}
+use Rattle.tuulveski.specs.Inside.{Narrow}
+use Rattle.tuulveski.proofs.NumberLaws.{check-narrow}
+
+-- numbers_of
+module _ (x : Answer) (h : Narrow x) where
+  module _ (a c d n : ℕ) (e : x ≡ Accepted a c d n) where
+    all-narrow : (a < 4294967296) × (c < 4294967296) × (d < 4294967296) × (n < 4294967296)
+    unfolding Narrow
+    all-narrow = subst Narrow e h
+
+    pub added-narrow : a < 4294967296
+    added-narrow = all-narrow .0
+
+    pub changed-narrow : c < 4294967296
+    changed-narrow = all-narrow .1
+
+    pub deleted-narrow : d < 4294967296
+    deleted-narrow = all-narrow .2
+
+    pub declined-narrow : n < 4294967296
+    declined-narrow = all-narrow .3
+
+  pub line-narrow : (n cause : ℕ) → x ≡ BadShape n cause → n < 4294967296
+  unfolding Narrow
+  line-narrow n cause e = subst Narrow e h
+
+  pub found-narrow : (n : ℕ) → x ≡ Findings n → n < 4294967296
+  unfolding Narrow
+  found-narrow n e = subst Narrow e h
+
+module _ (x : Answer) where
+  pub accepted-numbers : (a c d n p q r s : ℕ) → x ≡ Accepted a c d n → p ≡ a → q ≡ c → r ≡ d → s ≡ n → numbersIn (numbers 0 0 0 0 p q r s) ≡ numbersOf x
+  unfolding numbersIn numbersOf
+  accepted-numbers a c d n p q r s e f g h k = rw (e, f, g, h, k)
+
+  pub shape-numbers : (n cause p : ℕ) → x ≡ BadShape n cause → p ≡ n → numbersIn (numbers 5 p cause 0 0 0 0 0) ≡ numbersOf x
+  unfolding numbersIn numbersOf
+  shape-numbers n cause p e f = rw (e, f)
+
+  pub found-numbers : (n p : ℕ) → x ≡ Findings n → p ≡ n → numbersIn (numbers 6 0 0 p 0 0 0 0) ≡ numbersOf x
+  unfolding numbersIn numbersOf
+  found-numbers n p e f = rw (e, f)
+
+  module _ (r : Numbers) where
+    pub date-numbers : x ≡ Date → r ≡ numbers 1 0 0 0 0 0 0 0 → numbersIn r ≡ numbersOf x
+    unfolding numbersIn numbersOf
+    date-numbers e f = rw (e, f)
+
+    pub long-numbers : x ≡ Long → r ≡ numbers 2 0 0 0 0 0 0 0 → numbersIn r ≡ numbersOf x
+    unfolding numbersIn numbersOf
+    long-numbers e f = rw (e, f)
+
+    pub book-numbers : x ≡ Book → r ≡ numbers 3 0 0 0 0 0 0 0 → numbersIn r ≡ numbersOf x
+    unfolding numbersIn numbersOf
+    book-numbers e f = rw (e, f)
+
+    pub ledger-numbers : x ≡ Ledger → r ≡ numbers 4 0 0 0 0 0 0 0 → numbersIn r ≡ numbersOf x
+    unfolding numbersIn numbersOf
+    ledger-numbers e f = rw (e, f)
+
+    pub full-numbers : x ≡ Full → r ≡ numbers 7 0 0 0 0 0 0 0 → numbersIn r ≡ numbersOf x
+    unfolding numbersIn numbersOf
+    full-numbers e f = rw (e, f)
+
+pub ruleset for-numbers-of = (
+  needs,
+  added-narrow,
+  changed-narrow,
+  deleted-narrow,
+  declined-narrow,
+  line-narrow,
+  found-narrow,
+  accepted-numbers,
+  shape-numbers,
+  found-numbers,
+  date-numbers,
+  long-numbers,
+  book-numbers,
+  ledger-numbers,
+  full-numbers,
+)
+
+-- tuulveski_check
+module _ (x : Lent) (a : Answer) (l r : Text) (e : left a l r ≡ check x) where
+  pub answer-narrow : Narrow a
+  answer-narrow = subst Narrow (ap (λ (o : Outcome). o .answer) (sym e)) (check-narrow x)
+
+  pub answer-numbers : (n : Numbers) → numbersIn n ≡ numbersOf a → numbersIn n ≡ numbersOf (check x .answer)
+  answer-numbers n f = f ∙ ap (λ (o : Outcome). numbersOf (o .answer)) e
+
+  pub ledger-left : l ≡ check x .ledger
+  ledger-left = ap (λ (o : Outcome). o .ledger) e
+
+  pub area-left : r ≡ check x .area
+  area-left = ap (λ (o : Outcome). o .area) e
+
+pub ruleset for-tuulveski-check = (needs, answer-narrow, answer-numbers, ledger-left, area-left)
+
+-- tuulveski_field
+pub field-is : (s : Text) (n f : ℕ) (p : Bool) (at : ℕ) (t : Text) → p ≡ fieldThere s n f → at ≡ fieldPosition s n f → t ≡ fieldText s n f → record { present = p; start = at; length = length t } ≡ fieldAt s n f
+unfolding fieldAt
+field-is s n f p at t ep ea et = rw (ep, ea, et)
+
+pub ruleset for-tuulveski-field = (needs, field-is)

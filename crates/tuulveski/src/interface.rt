@@ -1,0 +1,134 @@
+// The C interface: include/tuulveski.h declares it.
+use crate::Answer;
+use crate::steps::check;
+ghost use mathlib.Core.Path.{_≡_};
+ghost use Prim.Native.Nat.{_<_};
+ghost use Rattle.tuulveski.specs.Answers.{lent, check, numbersOf};
+ghost use Rattle.tuulveski.specs.Interface.{numbers, numbersIn, fieldAt};
+ghost use Rattle.tuulveski.specs.Inside.{Narrow};
+
+// The numbers of an answer, those that it does not name being 0.
+#[repr(C)]
+pub struct Numbers {
+    pub answer: u32,
+    pub line: u32,
+    pub cause: u32,
+    pub findings: u32,
+    pub added: u32,
+    pub changed: u32,
+    pub deleted: u32,
+    pub not_immunized: u32,
+}
+
+// A field: whether it is there, where its text starts in the file, and how long it is.
+#[repr(C)]
+pub struct FieldAt {
+    pub present: bool,
+    pub start: usize,
+    pub length: usize,
+}
+
+// A number of 32 bits.
+fn narrow(n: usize) -> u32
+    requires { ⌜ n < 4294967296 ⌝ }
+    ensures { λ r. ⌜ r ≡ n ⌝ }
+{
+    n as u32
+}
+
+// An answer without a number of its own.
+fn plain(answer: u32) -> Numbers
+    ensures { λ r. ⌜ r ≡ numbers answer 0 0 0 0 0 0 0 ⌝ }
+{
+    Numbers {
+        answer,
+        line: 0,
+        cause: 0,
+        findings: 0,
+        added: 0,
+        changed: 0,
+        deleted: 0,
+        not_immunized: 0,
+    }
+}
+
+// The numbers of an answer.
+fn numbers_of(a: Answer) -> Numbers
+    requires { ⌜ Narrow a ⌝ }
+    ensures { λ r. ⌜ numbersIn r ≡ numbersOf a ⌝ }
+{
+    match a {
+        Answer::Accepted {
+            added,
+            changed,
+            deleted,
+            not_immunized,
+        } => Numbers {
+            answer: 0,
+            line: 0,
+            cause: 0,
+            findings: 0,
+            added: narrow(added),
+            changed: narrow(changed),
+            deleted: narrow(deleted),
+            not_immunized: narrow(not_immunized),
+        },
+        Answer::Date => plain(1),
+        Answer::Long => plain(2),
+        Answer::Book => plain(3),
+        Answer::Ledger => plain(4),
+        Answer::Shape { line, cause } => Numbers {
+            answer: 5,
+            line: narrow(line),
+            cause: cause as u32,
+            findings: 0,
+            added: 0,
+            changed: 0,
+            deleted: 0,
+            not_immunized: 0,
+        },
+        Answer::Findings(n) => Numbers {
+            answer: 6,
+            line: 0,
+            cause: 0,
+            findings: narrow(n),
+            added: 0,
+            changed: 0,
+            deleted: 0,
+            not_immunized: 0,
+        },
+        Answer::Full => plain(7),
+    }
+}
+
+// The check, its answer as numbers.
+#[no_mangle]
+pub extern "C" fn tuulveski_check(
+    today: u32,
+    file: &[u8],
+    book: &[u8],
+    ledger: &mut [u8],
+    findings: &mut [u8],
+) -> Numbers
+    ensures { λ r. ⌜ numbersIn r ≡ numbersOf (check (lent today (now (file .entry)) (now (book .entry)) (now (ledger .entry)) (now (findings .entry))) .answer) ⌝ }
+    ensures { λ _. ⌜ now (ledger .exit) ≡ check (lent today (now (file .entry)) (now (book .entry)) (now (ledger .entry)) (now (findings .entry))) .ledger ⌝ }
+    ensures { λ _. ⌜ now (findings .exit) ≡ check (lent today (now (file .entry)) (now (book .entry)) (now (ledger .entry)) (now (findings .entry))) .area ⌝ }
+{
+    let a = check(today, file, book, ledger, findings);
+    numbers_of(a)
+}
+
+// Field `field` of line `line`, both counted from 1, in a file of any shape.
+#[no_mangle]
+pub extern "C" fn tuulveski_field(file: &[u8], line: usize, field: usize) -> FieldAt
+    ensures { λ r. ⌜ r ≡ fieldAt (now (file .entry)) line field ⌝ }
+{
+    let present = lines::has_field(file, line, field);
+    let start = lines::field_position(file, line, field);
+    let text = lines::field(file, line, field);
+    FieldAt {
+        present,
+        start,
+        length: text.len(),
+    }
+}

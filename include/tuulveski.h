@@ -1,0 +1,120 @@
+/* Tuulveski: the check of an immunization submission, for charting products in C.
+ *
+ * Link with libtuulveski.a (`rt staticlib tuulveski` writes it). It calls memset and nothing else: no allocation, no file, no lock,
+ * no state between calls. Two threads may call at once as long as what they lend does not overlap.
+ *
+ * Every input gets an answer: nothing that the caller says of file, book, ledger or date is trusted.
+ *
+ * STACK. A call takes up to 1 MiB of the caller's stack. Give a thread that calls it at least 2 MiB.
+ *
+ * EXAMPLE
+ *
+ *     uint8_t found[600];
+ *     tuulveski_answer a = tuulveski_submit(20220930, file, file_len, book, book_len, ledger, ledger_len, found, sizeof found);
+ *     if (a.answer == TUULVESKI_ACCEPTED)
+ *         keep(ledger, ledger_len);
+ *     for (size_t i = 0; i < a.findings && i < sizeof found / TUULVESKI_FINDING_BYTES; i++) {
+ *         tuulveski_finding f = tuulveski_finding_at(found, i);
+ *         printf("line %u, field %u: rule %u\n", (unsigned)f.line, (unsigned)f.field, (unsigned)f.rule);
+ *     }
+ *
+ * A whole program is in examples/c.
+ */
+#ifndef TUULVESKI_H
+#define TUULVESKI_H
+
+#include <stdbool.h>
+#include <stddef.h>
+#include <stdint.h>
+
+#ifdef __cplusplus
+extern "C" {
+#endif
+
+/* The answers. The lowest that applies is given. */
+#define TUULVESKI_ACCEPTED 0 /* added, changed, deleted count blocks; not_immunized counts IN records */
+#define TUULVESKI_DATE 1     /* today is no date */
+#define TUULVESKI_LONG 2     /* the file has more than 5,000,000 bytes */
+#define TUULVESKI_BOOK 3     /* the code book is malformed */
+#define TUULVESKI_LEDGER 4   /* the ledger is malformed */
+#define TUULVESKI_SHAPE 5    /* a fault of shape: line says where, cause says which */
+#define TUULVESKI_FINDINGS 6 /* broken rules: findings says how many in all */
+#define TUULVESKI_FULL 7     /* the ledger has not the slots for what is live and added less what is deleted */
+
+/* Causes of answer 5. */
+#define TUULVESKI_CAUSE_NO_LF 1       /* the line does not end with LF */
+#define TUULVESKI_CAUSE_BYTE 2        /* a byte outside 32..126 */
+#define TUULVESKI_CAUSE_NO_PIPE 3     /* the line does not end in a pipe */
+#define TUULVESKI_CAUSE_TYPE 4        /* unknown record type */
+#define TUULVESKI_CAUSE_FIELD_COUNT 5 /* wrong number of fields */
+#define TUULVESKI_CAUSE_PLACE 6       /* this type may not stand here */
+#define TUULVESKI_CAUSE_END 7         /* the file ended before its IF; line is one past the last */
+
+/* Sizes and limits, in bytes unless said otherwise. */
+#define TUULVESKI_FILE_MOST 5000000
+#define TUULVESKI_BOOK_MOST 262144
+#define TUULVESKI_SLOT_BYTES 38
+#define TUULVESKI_SLOTS_MOST 100000 /* slots */
+#define TUULVESKI_FINDING_BYTES 6
+
+/* An answer. Numbers that are not named for it above are 0. Lines count from 1. */
+typedef struct {
+    uint32_t answer, line, cause, findings, added, changed, deleted, not_immunized;
+} tuulveski_answer;
+
+/* The check.
+ *
+ * today     a number YYYYMMDD.
+ * file      the submission; only read.
+ * book      the code book; only read. It may be empty.
+ * ledger    slots of 38 bytes. It alters only at answer 0, and is then the ledger to lend next time. A new ledger is all zeros,
+ *           38 bytes for each event that it is to hold.
+ * findings  an area of any length for findings. It alters only at answer 6: it gets as many whole findings from the start of the
+ *           list as fit, and its other bytes stay. The list is by line, field, rule.
+ *
+ * The caller owes: each pointer is not null, even where its length is 0, and points to as many bytes as are said; ledger and
+ * findings overlap neither each other nor file or book. tuulveski_submit, below, takes null for length 0. */
+tuulveski_answer tuulveski_check(uint32_t today, const uint8_t *file, size_t file_len, const uint8_t *book, size_t book_len,
+                                 uint8_t *ledger, size_t ledger_len, uint8_t *findings, size_t findings_len);
+
+/* A field of a file: whether it is there, and the part of the file that is its text. Of a field that is not there start and length
+ * are 0; an empty field is present with length 0. */
+typedef struct {
+    bool present;
+    size_t start, length;
+} tuulveski_field_at;
+
+/* Field `field` of line `line`, both from 1, in a file of any shape: for display. The pointer must not be null. */
+tuulveski_field_at tuulveski_field(const uint8_t *file, size_t file_len, size_t line, size_t field);
+
+/* A finding: which rule is broken at which field of which line. */
+typedef struct {
+    uint32_t line, field, rule;
+} tuulveski_finding;
+
+/* Finding i, from 0, of an area that answer 6 left. */
+static inline tuulveski_finding tuulveski_finding_at(const uint8_t *findings, size_t i)
+{
+    const uint8_t *p = findings + i * TUULVESKI_FINDING_BYTES;
+    tuulveski_finding f;
+    f.rule = p[0];
+    f.line = (uint32_t)p[1] | (uint32_t)p[2] << 8 | (uint32_t)p[3] << 16 | (uint32_t)p[4] << 24;
+    f.field = p[5];
+    return f;
+}
+
+/* tuulveski_check, with null allowed where a length is 0. */
+static inline tuulveski_answer tuulveski_submit(uint32_t today, const uint8_t *file, size_t file_len, const uint8_t *book,
+                                                size_t book_len, uint8_t *ledger, size_t ledger_len, uint8_t *findings,
+                                                size_t findings_len)
+{
+    uint8_t none[4] = {0, 0, 0, 0};
+    return tuulveski_check(today, file_len ? file : none, file_len, book_len ? book : none + 1, book_len,
+                           ledger_len ? ledger : none + 2, ledger_len, findings_len ? findings : none + 3, findings_len);
+}
+
+#ifdef __cplusplus
+}
+#endif
+
+#endif
