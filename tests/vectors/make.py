@@ -351,8 +351,39 @@ def ledger_cases():
     return cases
 
 
+# The largest sizes, and one more
+
+PLACES_MOST = 96154  # no file of 5,000,000 bytes has more blocks (docs/PROMISES.md, events)
+
+
+def letters(i):
+    return bytes(65 + i // 26 ** k % 26 for k in (3, 2, 1, 0))
+
+
+def bounds_cases():
+    """One input with two books, a file and three places in it; a line of what is printed for each size."""
+    types = [entry(5, letters(i)) for i in range(20165)]
+    most, more = entry(4, b"GSK") + b"".join(types[:-1]), b"".join(types)
+    assert (len(most), len(more)) == (262144, 262145) and book_ok(b"".join(types[:-1]))
+    out = []
+    for n in (100000, 100001):
+        out.append(b"ledger " + num(38 * n) + (b"sound 0 " if ledger_ok(bytes(38 * n)) else b"malformed "))
+    for book in (most, more):
+        out.append(b"book " + num(len(book)) + (b"valid " if book_ok(book) else b"malformed "))
+    lines = [ii(b"123456789", d) + b"\n" for d in (b"20220903", b"20220901", b"20220902")]
+    file, three = b"".join(lines), [0, len(lines[0]), len(lines[0] + lines[1])]
+    event_of = {p: event_at(file, p) for p in three}
+    for n in (PLACES_MOST, PLACES_MOST + 1):
+        places, can = [three[i % 3] for i in range(n)], n <= PLACES_MOST
+        after = sorted(places, key=event_of.get) if can else places
+        changes = sum(a != b for a, b in zip(after, after[1:]))
+        out.append(b"sort " + num(n) + yes(can) + num(changes) + num(after[0]) + num(after[-1]))
+    return [(part(most) + part(more) + part(file) + part(struct.pack("<III", *three)), b"\n".join(out))]
+
+
 if __name__ == "__main__":
     write("house_vectors", house_cases())
     write("lines_vectors", lines_cases())
     write("book_vectors", book_cases())
     write("ledger_vectors", ledger_cases())
+    write("bounds_vectors", bounds_cases())

@@ -2,6 +2,7 @@
 -- Assumes nothing.
 use Prim.Native.Nat.{ℕ, _-_, _≤_, _<_}
 use native.Mathlib.Omega.{arith}
+use borrow.Author.Needs.{needs}
 use mathlib.Core.Path.{_≡_}
 use mathlib.Core.Bool.{true}
 use mathlib.Core.List.{List}
@@ -15,3 +16,6 @@ module _ (s : List ℕ) (at : ℕ) (p q : Part) (hp : PartIs s at p) (hq : PartI
 
   pub second-less : at < length s → length s - q .end < length s - at
   second-less h = omega (arith, hp .past wp, hq .past wq, hq .within)
+
+-- what the programs' loops over cases ask
+pub ruleset for-cases = (needs, second-past, second-less)

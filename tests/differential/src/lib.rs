@@ -6,6 +6,7 @@ pub mod check;
 pub mod coverage;
 pub mod driver;
 pub mod generate;
+pub mod one;
 pub mod program;
 pub mod random;
 pub mod shrink;

@@ -3,16 +3,20 @@
 //! `differential N [SEED] -- PROGRAM..` compares N cases;
 //! `differential N SEED --self` only runs the implementation;
 //! `differential N SEED --batch` is itself such a batch program;
-//! `differential N SEED --speed [-- PROGRAM..]` times long cases, N times each.
+//! `differential N SEED --speed [-- PROGRAM..]` times long cases, N times each;
+//! `differential --check TODAY FILE BOOK LEDGER` checks one submission.
 
 use differential::case::Case;
 use differential::driver::Run;
+use differential::one;
 use differential::program::Program;
 use differential::speed;
 use std::io::{self, BufReader, BufWriter, Write};
 use std::process::ExitCode;
 
-const USAGE: &str = "differential N [SEED] -- PROGRAM.. | differential N SEED --self | --batch | --speed [-- PROGRAM..]";
+const USAGE: &str = "differential N [SEED] -- PROGRAM..
+differential N SEED --self | --batch | --speed [-- PROGRAM..]
+differential --check TODAY FILE BOOK LEDGER";
 
 #[derive(Clone, Copy, PartialEq)]
 enum Mode {
@@ -30,7 +34,13 @@ struct Arguments {
 }
 
 fn main() -> ExitCode {
-    let Some(arguments) = arguments(std::env::args().skip(1).collect()) else {
+    let words: Vec<String> = std::env::args().skip(1).collect();
+    if let [mode, today, file, book, ledger] = words.as_slice() {
+        if mode == "--check" {
+            return check_one(today, file, book, ledger);
+        }
+    }
+    let Some(arguments) = arguments(words) else {
         eprintln!("{USAGE}");
         return ExitCode::from(2);
     };
@@ -85,6 +95,17 @@ fn run(arguments: &Arguments) -> ExitCode {
     } else {
         ExitCode::FAILURE
     }
+}
+
+fn check_one(today: &str, file: &str, book: &str, ledger: &str) -> ExitCode {
+    match one::case(today, file, book, ledger) {
+        Ok(case) => print!("{}", one::printed(&case.outcome())),
+        Err(error) => {
+            eprintln!("{error}");
+            return ExitCode::from(2);
+        }
+    }
+    ExitCode::SUCCESS
 }
 
 /// A line for each case of the stream.

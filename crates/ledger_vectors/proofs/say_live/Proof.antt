@@ -1,6 +1,6 @@
 -- `ledger_vectors::say_live` meets its contract.
 -- Assumes nothing.
-use Rattle.ledger_vectors.proofs.Loops.{for-cases}
+use Rattle.stream.proofs.PartLaws.{for-cases}
 use Prim.Native.Nat.{_-_, _≤_}
 use Rattle.ledger_vectors.proofs.say_live.Statement.{statement}
 use Rattle.ledger_vectors.proofs.say_live.Tie as tie

@@ -1,6 +1,6 @@
 -- `ledger_vectors::three_slots` meets its contract.
 -- Assumes nothing.
-use Rattle.ledger_vectors.proofs.Loops.{for-cases}
+use Rattle.stream.proofs.PartLaws.{for-cases}
 use Prim.Native.Nat.{_-_, _≤_}
 use mathlib.Core.Path.{_≡_}
 use lib.ListN.{length}

@@ -1,0 +1,3 @@
+-- What the program answers.
+-- Assumes nothing.
+pub mod Program

@@ -1,0 +1,60 @@
+// What the program answers of what it reads.
+use book::Validity;
+use house::Date;
+use house::Dated;
+use tuulveski::Answer;
+ghost use mathlib.Core.Path.{_≡_};
+ghost use Rattle.tuulveski.specs.Answers.{left};
+ghost use Rattle.console.specs.Program.{todayIn, overLong, answerOf};
+
+// Today, where the first line is a date: eight digits and LF; 0, which is no date, for any other first line.
+fn today_in(input: &[u8]) -> u32
+    ensures { λ r. ⌜ r ≡ todayIn (now (input .entry)) ⌝ }
+{
+    if input.len() < 9 {
+        return 0;
+    }
+    if input[8] != 10 {
+        return 0;
+    }
+    let from = 0;
+    let to = 8;
+    let d = Date::of(&input[from..to]);
+    match d {
+        Dated::Day(date) => date.number,
+        Dated::NoDate => 0,
+    }
+}
+
+// A ledger that is too long is LEDGER, unless the book is malformed.
+fn over_long(book: &[u8]) -> Answer
+    ensures { λ r. ⌜ r ≡ overLong (now (book .entry)) ⌝ }
+{
+    let v = book::valid(book);
+    match v {
+        Validity::Valid(_) => Answer::Ledger,
+        Validity::Malformed => Answer::Book,
+    }
+}
+
+// The answer to what was read.
+pub fn answer(input: &[u8], book: &[u8], ledger: &mut [u8], area: &mut [u8]) -> Answer
+    ensures { λ r. ⌜ left r (now (ledger .exit)) (now (area .exit)) ≡ answerOf (now (input .entry)) (now (book .entry)) (now (ledger .entry)) (now (area .entry)) ⌝ }
+{
+    let today = today_in(input);
+    if today == 0 {
+        return Answer::Date;
+    }
+    if 32009 < input.len() {
+        return Answer::Long;
+    }
+    if 16000 < book.len() {
+        return Answer::Book;
+    }
+    if 7600 < ledger.len() {
+        return over_long(book);
+    }
+    let from = 9;
+    let to = input.len();
+    tuulveski::check(today, &input[from..to], book, ledger, area)
+}

@@ -1,0 +1,44 @@
+use Rattle.stream.proofs.PartLaws.{for-cases}
+use Prim.Native.Nat.{_≤_}
+use lib.ListN.{length}
+use Rattle.rules_vectors.proofs.say_area.Statement.{statement}
+use Rattle.rules_vectors.proofs.say_area.Tie as tie
+
+abbrev Inv-loop : tie.InvT-loop
+Inv-loop area findings at₀ left₀ t5 t6 at left = at ≤ length area
+
+abbrev μ-loop : tie.MeasureT-loop
+μ-loop area findings at₀ left₀ t5 t6 at left = left
+
+pub say-area-spec : {M : Type 1} → statement M
+say-area-spec =
+    tie.close
+    (tie.spec
+    Inv-loop
+    μ-loop
+    (λ c. search for-cases)
+    (λ c. search for-cases)
+    (λ c. search for-cases)
+    (λ c. search for-cases)
+    (λ c. search for-cases)
+    (λ c. search for-cases)
+    (λ c. search for-cases)
+    (λ c. search for-cases)
+    (λ c. search for-cases)
+    (λ c. search for-cases)
+    (λ c. search for-cases)
+    (λ c. search for-cases)
+    (λ c. search for-cases)
+    (λ c. search for-cases)
+    (λ c. search for-cases)
+    (λ c. search for-cases)
+    (λ c. search for-cases)
+    (λ c. search for-cases)
+    (λ c. search for-cases)
+    (λ c. search for-cases)
+    (λ c. search for-cases)
+    (λ c. search for-cases)
+    (λ c. search for-cases)
+    (λ c. search for-cases)
+    (λ c. search for-cases)
+    (λ c. search for-cases))
