@@ -16,23 +16,8 @@ One {A} x = (r q : A) → r ≡ x → q ≡ x → r ≡ q
 one : {A : Type 0} (x : A) → One x
 one x r q e f = e ∙ sym f
 
-form-of : (k f : ℕ) (t : Text) → One (formOf k f t)
-form-of k f t = one _
-
-is-judged : (k f : ℕ) → One (isJudged k f)
-is-judged k f = one _
-
 relaxed : (t : Text) → One (relaxedBy (fieldsOf t))
 relaxed t = one _
-
-is-optional : (k : ℕ) (t : Text) (f : ℕ) → One (isOptional k (recOf t) f)
-is-optional k t f = one _
-
-is-missing : (k : ℕ) (t : Text) (f : ℕ) → One (isMissing k (recOf t) f)
-is-missing k t f = one _
-
-is-misformed : (k : ℕ) (t : Text) (f : ℕ) → One (isMisformed k (recOf t) f)
-is-misformed k t f = one _
 
 basic-rule : (k : ℕ) (t : Text) (f : ℕ) → One (basicRule k (recOf t) f)
 basic-rule k t f = one _
@@ -67,23 +52,11 @@ lot-rule t block = one _
 any-antigen : (t since : Text) → One (any (sameAntigen (recOf t)) (recs since))
 any-antigen t since = one _
 
-any-lot : (t block : Text) → One (any (sameLot (recOf t)) (those (isKind 4) (recs block)))
-any-lot t block = one _
-
-dose-of : (t : Text) → One (doseOf (recOf t))
-dose-of t = one _
-
-same-count : (t u : Text) → One (sameCount (recOf t) (recOf u))
-same-count t u = one _
-
 sets-differ : (own first : Text) → One (setsDiffer (recs own) (recs first))
 sets-differ own first = one _
 
 counts-sound : (t : Text) → One (countsSound (recs t))
 counts-sound t = one _
-
-same-event : (t u : Text) → One (sameEvent (recOf t) (recOf u))
-same-event t u = one _
 
 joins : (t u : Text) → One (Joins (recOf t) (recOf u))
 joins t u = one _

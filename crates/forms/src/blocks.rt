@@ -16,7 +16,7 @@ fn same_field(a: &[u8], b: &[u8], f: usize) -> bool
 }
 
 // Whether two lines name one event: fields 3, 6 and 8.
-pub fn same_event(a: &[u8], b: &[u8]) -> bool
+fn same_event(a: &[u8], b: &[u8]) -> bool
     ensures { λ r. ⌜ r ≡ sameEvent (recOf (now (a .entry))) (recOf (now (b .entry))) ⌝ }
 {
     if same_field(a, b, 3) {

@@ -113,7 +113,7 @@ fn form_if(f: usize, t: &[u8]) -> bool
 }
 
 // Whether a text is of the form of field f of a record of a kind. Fields not listed, and IV 2, take any text.
-pub fn form_of(kind: u8, f: usize, t: &[u8]) -> bool
+fn form_of(kind: u8, f: usize, t: &[u8]) -> bool
     ensures { λ r. ⌜ r ≡ formOf kind f (now (t .entry)) ⌝ }
 {
     match kind {
@@ -139,7 +139,7 @@ fn is_within(lo: usize, hi: usize, f: usize) -> bool
 }
 
 // Whether field f of a record of a kind is judged at all.
-pub fn is_judged(kind: u8, f: usize) -> bool
+fn is_judged(kind: u8, f: usize) -> bool
     ensures { λ r. ⌜ r ≡ isJudged kind f ⌝ }
 {
     match kind {
@@ -184,7 +184,7 @@ pub fn relaxed(line: &[u8]) -> bool
 }
 
 // Whether field f of a line may be empty, the line read as a record of a kind.
-pub fn is_optional(kind: u8, line: &[u8], f: usize) -> bool
+fn is_optional(kind: u8, line: &[u8], f: usize) -> bool
     ensures { λ r. ⌜ r ≡ isOptional kind (recOf (now (line .entry))) f ⌝ }
 {
     if kind == IN {
@@ -201,7 +201,7 @@ pub fn is_optional(kind: u8, line: &[u8], f: usize) -> bool
 }
 
 // Rule 1: whether field f of a line is mandatory and empty.
-pub fn is_missing(kind: u8, line: &[u8], f: usize) -> bool
+fn is_missing(kind: u8, line: &[u8], f: usize) -> bool
     ensures { λ r. ⌜ r ≡ isMissing kind (recOf (now (line .entry))) f ⌝ }
 {
     if lines::field_of(line, f).len() != 0 {
@@ -219,7 +219,7 @@ pub fn is_missing(kind: u8, line: &[u8], f: usize) -> bool
 }
 
 // Rule 2: whether field f of a line is not of its form.
-pub fn is_misformed(kind: u8, line: &[u8], f: usize) -> bool
+fn is_misformed(kind: u8, line: &[u8], f: usize) -> bool
     ensures { λ r. ⌜ r ≡ isMisformed kind (recOf (now (line .entry))) f ⌝ }
 {
     let t = lines::field_of(line, f);

@@ -71,14 +71,14 @@ fn lot_among(block: &[u8], t: &[u8]) -> bool
 }
 
 // Rule 14: whether an II among the block's lines has the line's lot.
-pub fn any_lot(line: &[u8], block: &[u8]) -> bool
+pub(crate) fn any_lot(line: &[u8], block: &[u8]) -> bool
     ensures { λ r. ⌜ r ≡ any (sameLot (recOf (now (line .entry)))) (those (isKind 4) (recs (now (block .entry)))) ⌝ }
 {
     lot_among(block, lines::field_of(line, 15))
 }
 
 // The count of an IE as a number, 0 where it is not sound.
-pub fn dose_of(line: &[u8]) -> u32
+fn dose_of(line: &[u8]) -> u32
     ensures { λ r. ⌜ r ≡ doseOf (recOf (now (line .entry))) ⌝ }
 {
     let t = lines::field_of(line, 5);
@@ -86,7 +86,7 @@ pub fn dose_of(line: &[u8]) -> u32
 }
 
 // Whether two lines give one antigen equally often.
-pub fn same_count(a: &[u8], b: &[u8]) -> bool
+fn same_count(a: &[u8], b: &[u8]) -> bool
     ensures { λ r. ⌜ r ≡ sameCount (recOf (now (a .entry))) (recOf (now (b .entry))) ⌝ }
 {
     if house::same(lines::field_of(a, 4), lines::field_of(b, 4)) {
