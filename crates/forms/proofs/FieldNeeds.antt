@@ -1,7 +1,7 @@
 -- What each need of the functions on a line's fields asks.
 -- Assumes nothing.
 use mathlib.Core.Path.{_≡_, refl, sym, _∙_}
-use mathlib.Core.Bool.{Bool, true, false, not, cond, _&&_, _||_}
+use mathlib.Core.Bool.{Bool, true, false, not, cond, _&&_, _||_, and-false}
 use mathlib.Core.List.{List, [], _∷_}
 use Prim.Native.Nat.{ℕ, zero, suc, _+_, _≤_, _<_}
 use native.Mathlib.Omega.{arith}
@@ -10,10 +10,10 @@ use borrow.Author.Tests.{eq-eqb, ne-eqb, le-leb}
 use lib.Dec.{eqb}
 use lib.ListN.{length}
 use Rattle.house.specs.Text.{Text, any, within, same}
-use Rattle.house.proofs.Small.{Three, lt, eq, gt, three}
+use Rattle.house.proofs.Small.{Three, lt, eq, gt, three, clash}
 use Rattle.lines.specs.Lines.{fieldsOf, fieldOf}
 use Rattle.lines.specs.Records.{Rec, recOf}
-use Rattle.rules.specs.Forms.{anything, table, formOf, isJudged, relaxedBy, isOptional, isMissing, isMisformed, isSound, isGiven}
+use Rattle.rules.specs.Forms.{Row, text, anything, table, formIn, judgedIn, formOf, isJudged, relaxedBy, isOptional, isMissing, isMisformed, isSound, isGiven}
 use Rattle.rules.specs.Rules.{lacks}
 use Rattle.texts.proofs.TextLaws.{within-yes, within-low, within-high}
 use Rattle.forms.specs.Leaves.{refusedBy, lowest}
@@ -190,63 +190,50 @@ module _ (k : ℕ) (t : Text) (f : ℕ) where
 
 pub ruleset for-optional = (needs, optional-in, optional-none, optional-5, optional-9, optional-low, optional-high)
 
--- is_missing, is_misformed
-and-false : (b : Bool) → b && false ≡ false
-and-false true = refl
-and-false false = refl
-
-module _ (k : ℕ) (l : Text) (f : ℕ) (t : Text) (d : t ≡ fieldOf l f) where
-  pub missing-not : (length t ≡ 0 → ⊥) → false ≡ isMissing k (recOf l) f
-  unfolding isMissing
-  missing-not n = rw (text-is l f, ← d, empty-false t n) (sym (and-false (isJudged k f && not (isOptional k (recOf l) f))))
-
-  module _ (h : length t ≡ 0) (x : Bool) (e : x ≡ isJudged k f) where
-    pub missing-unjudged : x ≡ false → false ≡ isMissing k (recOf l) f
-    unfolding isMissing
-    missing-unjudged g = rw (← e, g)
-
-    module _ (g : x ≡ true) (y : Bool) (p : y ≡ isOptional k (recOf l) f) where
-      pub missing-optional : y ≡ true → false ≡ isMissing k (recOf l) f
-      unfolding isMissing
-      missing-optional q = rw (← e, g, ← p, q)
-
-      pub missing-yes : y ≡ false → true ≡ isMissing k (recOf l) f
-      unfolding isMissing
-      missing-yes q = rw (← e, g, ← p, q, text-is l f, ← d, empty-true t h)
-
-  pub misformed-empty : length t ≡ 0 → false ≡ isMisformed k (recOf l) f
-  unfolding isMisformed
-  misformed-empty h = rw (text-is l f, ← d, empty-true t h) (sym (and-false (not (formOf k f t))))
-
-  module _ (h : length t ≡ 0 → ⊥) (x : Bool) (e : x ≡ formOf k f t) where
-    pub misformed-not : x ≡ true → false ≡ isMisformed k (recOf l) f
-    unfolding isMisformed
-    misformed-not g = rw (text-is l f, ← d, ← e, g)
-
-    pub misformed-yes : x ≡ false → true ≡ isMisformed k (recOf l) f
-    unfolding isMisformed
-    misformed-yes g = rw (text-is l f, ← d, ← e, g, empty-false t h)
-
-pub ruleset for-missing = (needs, missing-not, missing-unjudged, missing-optional, missing-yes)
-
-pub ruleset for-misformed = (needs, misformed-empty, misformed-not, misformed-yes)
-
 -- basic_rule, is_sound, is_given, lacks
-module _ (k : ℕ) (l : Rec) (f later : ℕ) (x : Bool) (e : x ≡ isMissing k l f) where
-  pub basic-missing : x ≡ true → 1 ≡ lowest k l f later
-  unfolding lowest
-  basic-missing h = rw (← e, h)
 
-  module _ (h : x ≡ false) (y : Bool) (p : y ≡ isMisformed k l f) where
-    pub basic-misformed : y ≡ true → 2 ≡ lowest k l f later
-    unfolding lowest
-    basic-misformed g = rw (← e, h, ← p, g)
+-- a field that is not judged takes any text
+free : (rs : List Row) (k f : ℕ) (t : Text) → judgedIn rs k f ≡ false → formIn rs k f t ≡ true
+free [] k f t h = refl
+free (r ∷ rs) k f t h = go (eqb k (r .kind) && eqb f (r .field)) h (free rs k f t)
+  where
+    go : (b : Bool) → (b || judgedIn rs k f) ≡ false → (judgedIn rs k f ≡ false → formIn rs k f t ≡ true) → cond b (r .form t) (formIn rs k f t) ≡ true
+    go true z g = clash (cc)
+    go false z g = g z
 
-    pub basic-sound : y ≡ false → later ≡ lowest k l f later
-    unfolding lowest
-    basic-sound g = rw (← e, h, ← p, g)
+module _ (k : ℕ) (l : Text) (f : ℕ) (x : Bool) (e : x ≡ isJudged k f) where
+  pub basic-unjudged : x ≡ false → 0 ≡ lowest k (recOf l) f 0
+  unfolding lowest isMissing isMisformed isJudged formOf
+  basic-unjudged h = let j : judgedIn table k f ≡ false = sym e ∙ h in rw (j, free table k f (text (recOf l) f) j)
 
-pub ruleset for-basic = (needs, basic-missing, basic-misformed, basic-sound)
+  module _ (g : x ≡ true) (t : Text) (d : t ≡ fieldOf l f) where
+    module _ (h : length t ≡ 0) (y : Bool) (p : y ≡ isOptional k (recOf l) f) where
+      pub basic-optional : y ≡ true → 0 ≡ lowest k (recOf l) f 0
+      unfolding lowest isMissing isMisformed
+      basic-optional q = rw (← e, g, ← p, q, text-is l f, ← d, empty-true t h) (go (formOf k f t))
+        where
+          go : (b : Bool) → _≡_ {A = ℕ} 0 (cond (not b && false) 2 0)
+          go true = refl
+          go false = refl
+
+      pub basic-missing : y ≡ false → 1 ≡ lowest k (recOf l) f 0
+      unfolding lowest isMissing
+      basic-missing q = rw (← e, g, ← p, q, text-is l f, ← d, empty-true t h)
+
+    module _ (n : length t ≡ 0 → ⊥) (y : Bool) (p : y ≡ formOf k f t) where
+      there : isMissing k (recOf l) f ≡ false
+      unfolding isMissing
+      there = rw (text-is l f, ← d, empty-false t n) (and-false (isJudged k f && not (isOptional k (recOf l) f)))
+
+      pub basic-sound : y ≡ true → 0 ≡ lowest k (recOf l) f 0
+      unfolding lowest isMisformed
+      basic-sound q = rw (there, text-is l f, ← d, ← p, q)
+
+      pub basic-misformed : y ≡ false → 2 ≡ lowest k (recOf l) f 0
+      unfolding lowest isMisformed
+      basic-misformed q = rw (there, text-is l f, ← d, ← p, q, empty-false t n)
+
+pub ruleset for-basic = (needs, basic-unjudged, basic-optional, basic-missing, basic-sound, basic-misformed)
 
 pub sound-by : (k : ℕ) (l : Rec) (f r : ℕ) → r ≡ lowest k l f 0 → eqb r 0 ≡ isSound k l f
 unfolding isSound lowest

@@ -200,43 +200,23 @@ fn is_optional(kind: u8, line: &[u8], f: usize) -> bool
     }
 }
 
-// Rule 1: whether field f of a line is mandatory and empty.
-fn is_missing(kind: u8, line: &[u8], f: usize) -> bool
-    ensures { λ r. ⌜ r ≡ isMissing kind (recOf (now (line .entry))) f ⌝ }
-{
-    if lines::field_of(line, f).len() != 0 {
-        return false;
-    }
-    if is_judged(kind, f) {
-        if is_optional(kind, line, f) {
-            false
-        } else {
-            true
-        }
-    } else {
-        false
-    }
-}
-
-// Rule 2: whether field f of a line is not of its form.
-fn is_misformed(kind: u8, line: &[u8], f: usize) -> bool
-    ensures { λ r. ⌜ r ≡ isMisformed kind (recOf (now (line .entry))) f ⌝ }
-{
-    let t = lines::field_of(line, f);
-    if t.len() == 0 {
-        return false;
-    }
-    if form_of(kind, f, t) { false } else { true }
-}
-
 // Which of rules 1 and 2 is broken at field f of a line, 0 for neither.
 pub fn basic_rule(kind: u8, line: &[u8], f: usize) -> u8
     ensures { λ r. ⌜ r ≡ basicRule kind (recOf (now (line .entry))) f ⌝ }
 {
-    if is_missing(kind, line, f) {
-        return 1;
+    if is_judged(kind, f) {
+        let text = lines::field_of(line, f);
+        if text.len() == 0 {
+            if is_optional(kind, line, f) {
+                return 0;
+            } else {
+                return 1;
+            }
+        }
+        if form_of(kind, f, text) { 0 } else { 2 }
+    } else {
+        0
     }
-    if is_misformed(kind, line, f) { 2 } else { 0 }
 }
 
 // Whether field f of a line is sound: rules 1 and 2 find nothing in it.

@@ -1,5 +1,3 @@
--- `forms::fields::basic_rule` meets its contract.
--- Assumes nothing.
 use Rattle.forms.proofs.FieldNeeds.{for-basic}
 use Rattle.forms.proofs.fields.basic_rule.Statement.{statement}
 use Rattle.forms.proofs.fields.basic_rule.Tie as tie
@@ -8,6 +6,10 @@ pub basic-rule-spec : {M : Type 1} → statement M
 basic-rule-spec =
     tie.close
     (tie.spec
+    (λ c. search for-basic)
+    (λ c. search for-basic)
+    (λ c. search for-basic)
+    (λ c. search for-basic)
     (λ c. search for-basic)
     (λ c. search for-basic)
     (λ c. search for-basic)
