@@ -1,3 +1,5 @@
+-- `bounds_vectors::changes` meets its contract.
+-- Assumes nothing.
 use borrow.Author.Needs.{needs}
 use Prim.Native.Nat.{_-_, _<_}
 use lib.ListN.{length}

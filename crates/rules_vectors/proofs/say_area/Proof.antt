@@ -1,3 +1,5 @@
+-- `rules_vectors::say_area` meets its contract.
+-- Assumes nothing.
 use Rattle.stream.proofs.PartLaws.{for-cases}
 use Prim.Native.Nat.{_≤_}
 use lib.ListN.{length}

@@ -1,3 +1,5 @@
+-- `forms::fields::basic_rule` meets its contract.
+-- Assumes nothing.
 use Rattle.forms.proofs.FieldNeeds.{for-basic}
 use Rattle.forms.proofs.fields.basic_rule.Statement.{statement}
 use Rattle.forms.proofs.fields.basic_rule.Tie as tie
