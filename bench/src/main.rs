@@ -5,6 +5,7 @@
 //! small sizes and one run; WORD leaves only the families whose names have it; a
 //! size that is expected to take longer than the limit is left out.
 
+mod clock;
 mod codes;
 mod families;
 mod measure;
@@ -126,8 +127,9 @@ fn page(plan: &Plan, rows: &[Row]) -> String {
         `bench/run` measures and writes this page; `bench/run --quick` tries it on small files and writes nothing.\n\n\
         Measured on {date}: {machine}.\n\n\
         Full size is a file of 5,000,000 bytes (fewer where the records are at their highest number, 99,999), a book of about 200 KB and a \
-        ledger of 100,000 slots, 60% of them live (40% for one patient); a part of it has a part of each. Each time is the median of up to \
-        {runs} runs, fewer where one takes seconds, without the filling of ledger and findings area. For every run the two answers, ledgers \
+        ledger of 100,000 slots, 60% of them live (40% for one patient); a part of it has a part of each. Each time is the processor \
+        time of the check alone, without the filling of ledger and findings area: the median of up to {runs} runs, fewer where one takes \
+        seconds. For every run the two answers, ledgers \
         and areas were compared, byte for byte, and were the same. A dash: left out, for it would take over {limit} s.\n\n\
         {families}\n\
         ## At the largest size\n\n\

@@ -1,9 +1,10 @@
 //! Both checks on one input: their times, and whether they say the same.
 
+use crate::clock;
 use crate::product;
 use differential::case::{Case, FILL};
 use differential::check::{self, Answer};
-use std::time::{Duration, Instant};
+use std::time::Duration;
 
 /// The runs of one input end when they have taken this long.
 const LONG_ENOUGH: Duration = Duration::from_secs(20);
@@ -40,7 +41,7 @@ impl Areas {
     /// The answer, and the time of the check alone.
     fn timed(&mut self, case: &Case, check: Check) -> (Answer, Duration) {
         self.refill(case);
-        let start = Instant::now();
+        let start = clock::now();
         let answer = check(
             case.today,
             &case.file,
@@ -48,7 +49,7 @@ impl Areas {
             &mut self.ledger,
             &mut self.findings,
         );
-        (answer, start.elapsed())
+        (answer, clock::now() - start)
     }
 }
 
@@ -56,14 +57,14 @@ impl Areas {
 pub fn measure(case: &Case, runs: usize) -> Result<Times, String> {
     let (mut ours, mut theirs) = (Areas::of(case), Areas::of(case));
     let (mut product, mut independent) = (Vec::new(), Vec::new());
-    let start = Instant::now();
+    let start = clock::now();
     loop {
         let (answer, taken) = ours.timed(case, product::check);
         product.push(taken);
         let (other, taken) = theirs.timed(case, check::check);
         independent.push(taken);
         compare(&answer, &ours, &other, &theirs)?;
-        if product.len() >= runs || start.elapsed() > LONG_ENOUGH {
+        if product.len() >= runs || clock::now() - start > LONG_ENOUGH {
             return Ok(Times {
                 bytes: case.file.len(),
                 answer,
