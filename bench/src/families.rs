@@ -86,7 +86,7 @@ pub fn all() -> Vec<Family> {
                 "one patient",
                 ACCEPTED,
                 one_patient,
-                "one IP with all events, all different: as many as an accepted file can have",
+                "one IP with all events, all different",
             )
         },
         usual(
@@ -123,16 +123,16 @@ pub fn all() -> Vec<Family> {
             )
         },
         usual(
-            "one II of antigens",
-            FINDINGS,
-            one_immunization,
-            "one II with as many antigens as fit, most of them in no book",
-        ),
-        usual(
             "long name",
             ACCEPTED,
             long_name,
             "one patient whose name is half of the file, events in the other half",
+        ),
+        usual(
+            "one II of antigens",
+            FINDINGS,
+            one_immunization,
+            "one II with as many antigens as fit, most of them in no book",
         ),
     ]
 }

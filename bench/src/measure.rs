@@ -7,7 +7,7 @@ use differential::check::{self, Answer};
 use std::time::Duration;
 
 /// The runs of one input end when they have taken this long.
-const LONG_ENOUGH: Duration = Duration::from_secs(20);
+const LONG_ENOUGH: Duration = Duration::from_secs(10);
 
 type Check = fn(u32, &[u8], &[u8], &mut [u8], &mut [u8]) -> Answer;
 

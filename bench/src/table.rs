@@ -86,7 +86,7 @@ fn last_cells(last: Option<&Times>) -> [String; 4] {
     match last {
         None => [NONE; 4].map(str::to_string),
         Some(times) => [
-            times.bytes.to_string(),
+            grouped(&times.bytes.to_string()),
             ms(times.product),
             ms(times.independent),
             short(times.product.as_secs_f64() / times.independent.as_secs_f64()),
@@ -111,18 +111,24 @@ fn ms(time: Duration) -> String {
 
 /// Three digits that count, at least.
 fn short(number: f64) -> String {
-    let decimals = match number {
-        _ if number < 1.0 => 3,
-        _ if number < 10.0 => 2,
-        _ if number < 100.0 => 1,
-        _ => 0,
-    };
-    format!("{number:.decimals$}")
+    match number {
+        _ if number < 1.0 => format!("{number:.3}"),
+        _ if number < 10.0 => format!("{number:.2}"),
+        _ if number < 100.0 => format!("{number:.1}"),
+        _ => grouped(&format!("{number:.0}")),
+    }
+}
+
+/// A comma before every third digit from the end.
+fn grouped(digits: &str) -> String {
+    let groups = digits.as_bytes().rchunks(3).rev();
+    let groups: Vec<_> = groups.map(String::from_utf8_lossy).collect();
+    groups.join(",")
 }
 
 fn said(answer: &Answer) -> String {
     if answer.answer == FINDINGS {
-        return format!("{} findings", answer.findings);
+        return format!("{} findings", grouped(&answer.findings.to_string()));
     }
     let parts = [
         (answer.added, "added"),
@@ -133,7 +139,7 @@ fn said(answer: &Answer) -> String {
     let parts: Vec<String> = parts
         .iter()
         .filter(|(number, _)| *number > 0)
-        .map(|(number, name)| format!("{number} {name}"))
+        .map(|(number, name)| format!("{} {name}", grouped(&number.to_string())))
         .collect();
     format!("accepted: {}", parts.join(", "))
 }
