@@ -1,0 +1,162 @@
+//! Measures the product's check against the independent implementation of
+//! tests/differential, both in this process, and prints the tables in Markdown.
+//!
+//! `bench [--quick] [--only WORD] [--limit SECONDS] [--date DATE]`: quick is two
+//! small sizes and one run; WORD leaves only the families whose names have it; a
+//! size that is expected to take longer than the limit is left out.
+
+mod clock;
+mod codes;
+mod families;
+mod measure;
+mod product;
+mod submission;
+mod table;
+mod world;
+
+use families::Family;
+use measure::Times;
+use std::process::ExitCode;
+use std::time::Duration;
+use table::Row;
+use world::Size;
+
+/// The product's check needs about 1 MB of stack.
+const STACK: usize = 16 << 20;
+
+struct Plan {
+    sizes: &'static [usize],
+    runs: usize,
+    only: String,
+    limit: Duration,
+    date: String,
+}
+
+fn main() -> ExitCode {
+    let Some(plan) = plan() else {
+        eprintln!("bench [--quick] [--only WORD] [--limit SECONDS] [--date DATE]");
+        return ExitCode::from(2);
+    };
+    let thread = std::thread::Builder::new()
+        .stack_size(STACK)
+        .spawn(move || report(&plan));
+    match thread.map(|thread| thread.join()) {
+        Ok(Ok(Ok(text))) => {
+            print!("{text}");
+            ExitCode::SUCCESS
+        }
+        Ok(Ok(Err(difference))) => {
+            eprintln!("{difference}");
+            ExitCode::FAILURE
+        }
+        _ => ExitCode::FAILURE,
+    }
+}
+
+fn plan() -> Option<Plan> {
+    let mut plan = Plan {
+        sizes: &[16, 8, 4, 2, 1],
+        runs: 7,
+        only: String::new(),
+        limit: Duration::from_secs(900),
+        date: String::new(),
+    };
+    let mut words = std::env::args().skip(1);
+    while let Some(word) = words.next() {
+        match word.as_str() {
+            "--quick" => (plan.sizes, plan.runs) = (&[64, 16], 1),
+            "--only" => plan.only = words.next()?,
+            "--limit" => plan.limit = Duration::from_secs(words.next()?.parse().ok()?),
+            "--date" => plan.date = words.next()?,
+            _ => return None,
+        }
+    }
+    Some(plan)
+}
+
+/// The tables; or the family, the size and the difference of the two checks.
+fn report(plan: &Plan) -> Result<String, String> {
+    let families = families::all();
+    let rows: Result<Vec<Row>, String> = families
+        .into_iter()
+        .filter(|family| family.name.contains(&plan.only))
+        .map(|family| row(plan, family))
+        .collect();
+    Ok(page(plan, &rows?))
+}
+
+fn row(plan: &Plan, family: Family) -> Result<Row, String> {
+    let mut sizes = Vec::new();
+    let mut expected = Some(Duration::ZERO);
+    for size in plan.sizes.iter().map(|&parts| Size { parts }) {
+        let times = match expected {
+            Some(expected) if expected <= plan.limit => Some(times(plan, &family, size)?),
+            _ => None,
+        };
+        expected = times.as_ref().map(at_twice_the_size);
+        sizes.push((size, times));
+    }
+    Ok(Row { family, sizes })
+}
+
+/// At most this, if the time grows with the square of the size.
+fn at_twice_the_size(times: &Times) -> Duration {
+    4 * times.product.max(times.independent)
+}
+
+fn times(plan: &Plan, family: &Family, size: Size) -> Result<Times, String> {
+    let place = format!("{}, {}", family.name, size.name());
+    let times = measure::measure(&family.case(size), plan.runs)
+        .map_err(|difference| format!("{place}: {difference}"))?;
+    eprintln!(
+        "{place}: {:?}, {:?} and {:?}",
+        times.answer.numbers(),
+        times.product,
+        times.independent
+    );
+    if times.answer.answer != family.answer {
+        return Err(format!("{place}: answer {} was meant", family.answer));
+    }
+    Ok(times)
+}
+
+fn page(plan: &Plan, rows: &[Row]) -> String {
+    format!(
+        "# Speed\n\n\
+        The check against the independent Rust implementation of `tests/differential`, both x86-64, in one process and one run. \
+        `bench/run` measures and writes this page; `bench/run --quick` tries it on small files and writes nothing.\n\n\
+        Measured on {date}: {machine}.\n\n\
+        Full size is a file of 5,000,000 bytes (fewer where the records are at their highest number, 99,999), a book of about 200 KB and a \
+        ledger of 100,000 slots, 60% of them live (40% for one patient); a part of it has a part of each. Each time is the processor \
+        time of the check alone, without the filling of ledger and findings area: the median of up to {runs} runs, fewer where one takes \
+        seconds. For every run the two answers, ledgers \
+        and areas were compared, byte for byte, and were the same. A dash: left out, for it would take over {limit} s.\n\n\
+        {families}\n\
+        ## At the largest size\n\n\
+        The ratio is the product's time over the other's. Growth is the time for a byte of the file at the largest size over that at the \
+        smallest: 1 where the time is in proportion to the size.\n\n\
+        {ratios}\n\
+        ## At each size\n\n\
+        Milliseconds, the product's / the independent implementation's.\n\n\
+        {sizes}",
+        date = plan.date,
+        machine = machine(),
+        runs = plan.runs,
+        limit = plan.limit.as_secs(),
+        families = table::families(rows),
+        ratios = table::ratios(rows),
+        sizes = table::sizes(rows),
+    )
+}
+
+/// The processor, as the system names it.
+fn machine() -> String {
+    let about = std::fs::read_to_string("/proc/cpuinfo").unwrap_or_default();
+    let names: Vec<&str> = about
+        .lines()
+        .filter(|line| line.starts_with("model name"))
+        .filter_map(|line| line.split(": ").nth(1))
+        .collect();
+    let name = names.first().unwrap_or(&"a processor without a name");
+    format!("{name}, {} cores, {}", names.len(), std::env::consts::ARCH)
+}
