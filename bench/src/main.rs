@@ -157,7 +157,7 @@ fn page(plan: &Plan, rows: &[Row]) -> String {
     )
 }
 
-/// The processor, as the system names it.
+/// The processor as the system names it, and how busy it is.
 fn machine() -> String {
     let about = std::fs::read_to_string("/proc/cpuinfo").unwrap_or_default();
     let names: Vec<&str> = about
@@ -166,5 +166,12 @@ fn machine() -> String {
         .filter_map(|line| line.split(": ").nth(1))
         .collect();
     let name = names.first().unwrap_or(&"a processor without a name");
-    format!("{name}, {} cores, {}", names.len(), std::env::consts::ARCH)
+    let load = std::fs::read_to_string("/proc/loadavg").unwrap_or_default();
+    let load: Vec<&str> = load.split(' ').take(3).collect();
+    format!(
+        "{name}, {} cores, {}, load average at the end {}",
+        names.len(),
+        std::env::consts::ARCH,
+        load.join(" ")
+    )
 }
