@@ -1,4 +1,5 @@
-//! The processor time of this thread: what else runs on the machine is not in it.
+//! The processor time of this thread: the turns of other programs are not in it,
+//! though what they share with it, such as caches, may slow it.
 
 use std::time::Duration;
 

@@ -1,9 +1,10 @@
 //! Measures the product's check against the independent implementation of
 //! tests/differential, both in this process, and prints the tables in Markdown.
 //!
-//! `bench [--quick] [--only WORD] [--limit SECONDS] [--date DATE]`: quick is two
-//! small sizes and one run; WORD leaves only the families whose names have it; a
-//! size that is expected to take longer than the limit is left out.
+//! `bench [--quick] [--only WORD] [--limit SECONDS] [--date DATE] [--product NAME]`:
+//! quick is two small sizes and one run; WORD leaves only the families whose names
+//! have it; a size that is expected to take longer than the limit is left out; the
+//! page says the date, and NAME for the product's version.
 
 mod clock;
 mod codes;
@@ -21,6 +22,9 @@ use std::time::Duration;
 use table::Row;
 use world::Size;
 
+const USAGE: &str =
+    "bench [--quick] [--only WORD] [--limit SECONDS] [--date DATE] [--product NAME]";
+
 /// The product's check needs about 1 MB of stack.
 const STACK: usize = 16 << 20;
 
@@ -30,11 +34,12 @@ struct Plan {
     only: String,
     limit: Duration,
     date: String,
+    product: String,
 }
 
 fn main() -> ExitCode {
     let Some(plan) = plan() else {
-        eprintln!("bench [--quick] [--only WORD] [--limit SECONDS] [--date DATE]");
+        eprintln!("{USAGE}");
         return ExitCode::from(2);
     };
     let thread = std::thread::Builder::new()
@@ -60,6 +65,7 @@ fn plan() -> Option<Plan> {
         only: String::new(),
         limit: Duration::from_secs(900),
         date: String::new(),
+        product: String::new(),
     };
     let mut words = std::env::args().skip(1);
     while let Some(word) = words.next() {
@@ -68,6 +74,7 @@ fn plan() -> Option<Plan> {
             "--only" => plan.only = words.next()?,
             "--limit" => plan.limit = Duration::from_secs(words.next()?.parse().ok()?),
             "--date" => plan.date = words.next()?,
+            "--product" => plan.product = words.next()?,
             _ => return None,
         }
     }
@@ -125,7 +132,7 @@ fn page(plan: &Plan, rows: &[Row]) -> String {
         "# Speed\n\n\
         The check against the independent Rust implementation of `tests/differential`, both x86-64, in one process and one run. \
         `bench/run` measures and writes this page; `bench/run --quick` tries it on small files and writes nothing.\n\n\
-        Measured on {date}: {machine}.\n\n\
+        Measured on {date}, the product at {product}: {machine}.\n\n\
         Full size is a file of 5,000,000 bytes (fewer where the records are at their highest number, 99,999), a book of about 200 KB and a \
         ledger of 100,000 slots, 60% of them live (40% for one patient); a part of it has a part of each. Each time is the processor \
         time of the check alone, without the filling of ledger and findings area: the median of up to {runs} runs, fewer where one takes \
@@ -140,6 +147,7 @@ fn page(plan: &Plan, rows: &[Row]) -> String {
         Milliseconds, the product's / the independent implementation's.\n\n\
         {sizes}",
         date = plan.date,
+        product = plan.product,
         machine = machine(),
         runs = plan.runs,
         limit = plan.limit.as_secs(),
@@ -149,7 +157,7 @@ fn page(plan: &Plan, rows: &[Row]) -> String {
     )
 }
 
-/// The processor, as the system names it.
+/// The processor as the system names it, and how busy it is.
 fn machine() -> String {
     let about = std::fs::read_to_string("/proc/cpuinfo").unwrap_or_default();
     let names: Vec<&str> = about
@@ -158,5 +166,12 @@ fn machine() -> String {
         .filter_map(|line| line.split(": ").nth(1))
         .collect();
     let name = names.first().unwrap_or(&"a processor without a name");
-    format!("{name}, {} cores, {}", names.len(), std::env::consts::ARCH)
+    let load = std::fs::read_to_string("/proc/loadavg").unwrap_or_default();
+    let load: Vec<&str> = load.split(' ').take(3).collect();
+    format!(
+        "{name}, {} cores, {}, load average at the end {}",
+        names.len(),
+        std::env::consts::ARCH,
+        load.join(" ")
+    )
 }
