@@ -199,7 +199,7 @@ module _ (s : Text) (q : Sections) (k n : ℕ) (sec : Section s q k n) (x : Text
       go (miss f e) = rw e (sym (standing-none (entries s) k x d (misses f)))
 
 -- texts that do not fit are no code of the book
-filled-long : (w : ℕ) (t : Text) → (w ≤ length (filled w t)) × (length t ≤ length (filled w t))
+pub filled-long : (w : ℕ) (t : Text) → (w ≤ length (filled w t)) × (length t ≤ length (filled w t))
 filled-long zero t = (omega arith, omega arith)
 filled-long (suc w) [] = (omega (arith, filled-long w [] .0), omega arith)
 filled-long (suc w) (b ∷ t) = (omega (arith, filled-long w t .0), omega (arith, filled-long w t .1))

@@ -1,12 +1,11 @@
 -- What each need of the program's functions asks.
 -- Assumes nothing.
 use mathlib.Core.Path.{_≡_, refl, sym, ap, _∙_}
-use mathlib.Core.Bool.{Bool, true, false, not, cond, _&&_}
-use mathlib.Core.List.{List, []}
-use Prim.Native.Nat.{ℕ, _+_, _-_, _*_, _^_, _≤_, _<_}
+use mathlib.Core.Bool.{Bool, true, false, cond, _&&_}
+use Prim.Native.Nat.{ℕ, _-_, _≤_, _<_}
 use native.Mathlib.Omega.{arith}
 use borrow.Author.Needs.{needs}
-use borrow.Author.Tests.{eq-eqb, ne-eqb, eqb-true, le-leb, lt-leb, leb-true, lt-ltb, le-ltb}
+use borrow.Author.Tests.{eq-eqb, ne-eqb, le-leb, lt-leb, leb-true, lt-ltb, le-ltb}
 use lib.Dec.{eqb, ltb, leb}
 use lib.ListN.{length, getD, take, drop, length-drop}
 use lib.Seq.{take-all}
@@ -23,7 +22,7 @@ use Rattle.book.specs.declared.Validity.the-variants.{Valid, Malformed}
 use Rattle.book.specs.Book.{bookOk, validOf, sectionsOf}
 use Rattle.tuulveski.specs.declared.Answer.{Answer}
 use Rattle.tuulveski.specs.declared.Answer.the-variants.{Date as NoDay, Long, Book, Ledger}
-use Rattle.tuulveski.specs.Answers.{Outcome, lent, left, check}
+use Rattle.tuulveski.specs.Answers.{lent, left, check}
 use Rattle.console.specs.Program.{isDated, todayIn, overLong, answerOf}
 
 -- today_in

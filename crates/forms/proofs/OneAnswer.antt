@@ -2,12 +2,12 @@
 -- Assumes nothing.
 use mathlib.Core.Path.{_≡_, sym, _∙_}
 use Prim.Native.Nat.{ℕ}
-use Rattle.house.specs.Text.{Text, any, those}
+use Rattle.house.specs.Text.{Text, any}
 use Rattle.lines.specs.Lines.{fieldsOf}
-use Rattle.lines.specs.Records.{recOf, recs, isKind}
-use Rattle.rules.specs.Forms.{formOf, isJudged, relaxedBy, isOptional, isMissing, isMisformed, isSound, isGiven}
-use Rattle.rules.specs.Blocks.{isInBlock, sameEvent, joins as Joins}
-use Rattle.rules.specs.Rules.{lacks as Lacks, sameAntigen, doseOf, sameCount, countsSound, setsDiffer, sameLot}
+use Rattle.lines.specs.Records.{recOf, recs}
+use Rattle.rules.specs.Forms.{relaxedBy, isSound, isGiven}
+use Rattle.rules.specs.Blocks.{isInBlock, joins as Joins}
+use Rattle.rules.specs.Rules.{lacks as Lacks, sameAntigen, countsSound, setsDiffer}
 use Rattle.forms.specs.Leaves.{basicRule, numberRule, uliRule, dayRule, dateRule, versionRule, lotRule}
 
 abbrev One : {A : Type 0} → A → Type 0

@@ -7,11 +7,10 @@ use mathlib.Core.List.{List, [], _∷_}
 use Prim.Native.Nat.{ℕ, _≤_}
 use native.Mathlib.Omega.{arith}
 use borrow.Author.Tests.{ne-eqb}
-use lib.Dec.{T, eqb, leb, ltb, eqb→eq, leb→le}
+use lib.Dec.{T, eqb, ltb, eqb→eq}
 use lib.ListN.{length, drop}
-use Rattle.house.specs.Text.{Text, any, all, same, within, run, isDigit, isGraphic, digits, number}
+use Rattle.house.specs.Text.{Text, any, all, same, isGraphic}
 use Rattle.house.specs.Members.{In}
-use Rattle.house.specs.Dates.{isDate, isDay}
 use Rattle.house.proofs.Small.{clash}
 use Rattle.house.proofs.Facts.{both, both-of, either, left-of, right-of, of-true, bool-ext}
 use Rattle.house.proofs.Members.{any-in}
@@ -22,37 +21,25 @@ use Rattle.lines.specs.Records.{Rec, II, IE, isKind, recOf, recs}
 use Rattle.events.specs.Events as events
 use Rattle.events.specs.Events.{eventAt}
 use Rattle.ledger.specs.Ledger.{Event}
-use Rattle.rules.specs.Forms.{fieldIn, text, isUli, isCode}
+use Rattle.rules.specs.Forms.{fieldIn, text}
 use Rattle.rules.specs.Places.{noRec}
 use Rattle.rules.specs.Blocks.{isInBlock, eventOf, sameEvent, joins, nearestOf, blockIn, openAfter, joinsOpen, begins, beforeOpen, beforeBlock, isRepeated}
-use Rattle.rules.proofs.BlockLaws.{named}
+use Rattle.rules.proofs.BlockLaws.{named, uli-length, date-length, code-says}
 use Rattle.index.specs.Firsts.{startAfter, namedBefore}
 use Rattle.index.specs.Inside.{recAt, Passed, firstsIn}
 use Rattle.index.proofs.PassLaws.{firsts-split, firsts-behind, firsts-ahead}
 
 -- 1. The fields that name an event
 
-run-within : (lo hi : ℕ) (class : ℕ → Bool) (t : Text) → T (run lo hi class t) → (lo ≤ length t) × (length t ≤ hi) × T (all class t)
-unfolding run
-run-within lo hi class t h =
-    let p = both (within lo hi (length t)) (all class t) h in
-    let q = both (leb lo (length t)) (leb (length t) hi) (p .0) in
-    (leb→le lo (length t) (q .0), leb→le (length t) hi (q .1), p .1)
-
 module _ (l : Rec) (b : T (isInBlock l)) where
   pub uli-wide : length (text l 3) ≡ 9
-  unfolding isUli
-  uli-wide = let p = run-within 9 9 isDigit (text l 3) (named l b .uli) in omega arith
+  uli-wide = uli-length l (named l b)
 
   pub date-wide : length (text l 6) ≡ 8
-  unfolding isDate
-  date-wide =
-      let p = both (eqb (length (text l 6)) 8 && digits (text l 6)) (isDay (number (text l 6))) (named l b .date) in
-      eqb→eq (length (text l 6)) 8 (both (eqb (length (text l 6)) 8) (digits (text l 6)) (p .0) .0)
+  date-wide = date-length l (named l b)
 
   pub code-wide : (1 ≤ length (text l 8)) × (length (text l 8) ≤ 20) × T (all isGraphic (text l 8))
-  unfolding isCode
-  code-wide = run-within 1 20 isGraphic (text l 8) (named l b .code)
+  code-wide = code-says l (named l b)
 
   pub is-II : l .kind ≡ II
   is-II = eqb→eq (l .kind) II (named l b .kind-is)

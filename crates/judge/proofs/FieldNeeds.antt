@@ -2,7 +2,7 @@
 -- Assumes nothing.
 use mathlib.Core.Path.{_≡_, refl, sym, ap, _∙_}
 use mathlib.Core.Bool.{Bool, true, false, not, cond, _&&_, _||_}
-use mathlib.Core.List.{List, [], _∷_}
+use mathlib.Core.List.{List, []}
 use Prim.Native.Nat.{ℕ, _≤_}
 use native.Mathlib.Omega.{arith}
 use borrow.Author.Needs.{needs}
@@ -13,7 +13,7 @@ use Rattle.house.specs.Text.{Text, bytes, same, all, run, number, isEmpty, isDi
 use Rattle.house.specs.Dates.{isDate}
 use Rattle.house.proofs.Small.{both, clash}
 use Rattle.lines.specs.Lines.{fieldOf}
-use Rattle.lines.specs.Records.{Rec, IV, IP, II, IE, IN, IA, recordOf, recOf}
+use Rattle.lines.specs.Records.{Rec, IV, IP, recordOf, recOf}
 use Rattle.book.specs.declared.Sections.{Sections}
 use Rattle.book.specs.Book.{codeText}
 use Rattle.rules.specs.Forms.{text, table, formOf, isJudged, isOptional, isMissing, isMisformed, isSound, countForm, isNumber}
@@ -57,16 +57,19 @@ flip : (b : Bool) (n : ℕ) → cond b 0 n ≡ cond (not b) n 0
 flip true n = refl
 flip false n = refl
 
--- a number of up to five digits is read whole
+-- up to nine digits are read whole
+pub value-read : (t : Text) → 1 ≤ length t → length t ≤ 9 → all isDigit t ≡ true → valueOf t ≡ number t
+unfolding valueOf run
+value-read t l m d = rw (le-leb 1 (length t) l, le-leb (length t) 9 m, d)
+
 value-is : (t : Text) → isNumber t ≡ true → valueOf t ≡ number t
-unfolding isNumber countForm valueOf run
+unfolding isNumber countForm run
 value-is t h =
     let p = both (leb 1 (length t) && leb (length t) 5 && all isDigit t) (ltb 0 (number t)) h in
     let q = both (leb 1 (length t) && leb (length t) 5) (all isDigit t) (p .0) in
     let r = both (leb 1 (length t)) (leb (length t) 5) (q .0) in
     let m : length t ≤ 5 = leb-true (length t) 5 (r .1) in
-    let w : leb (length t) 9 ≡ true = le-leb (length t) 9 (omega arith) in
-    rw (r .0, w, q .1)
+    value-read t (leb-true 1 (length t) (r .0)) (omega arith) (q .1)
 
 module _ (k : ℕ) (l : Rec) where
   number-is : (place : ℕ) → (isSound k l 2 ≡ true → isNumber (text l 2) ≡ true) → numberRule k l place ≡ lowest k l 2 (cond (not (eqb (number (text l 2)) place)) 7 0)

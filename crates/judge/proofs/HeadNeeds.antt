@@ -1,8 +1,8 @@
 -- What each need of the functions on an IE's fields asks.
 -- Assumes nothing.
 use mathlib.Core.Path.{_≡_, refl, sym, ap, _∙_}
-use mathlib.Core.Bool.{Bool, true, not, cond, _&&_, _||_}
-use mathlib.Core.List.{List, [], _∷_, reverse}
+use mathlib.Core.Bool.{Bool, not, cond, _&&_, _||_}
+use mathlib.Core.List.{List, [], reverse}
 use Prim.Native.Nat.{ℕ}
 use borrow.Author.Needs.{needs}
 use Rattle.house.specs.Text.{Text, any}
@@ -19,7 +19,6 @@ use Rattle.forms.proofs.FieldLaws.{text-is}
 use Rattle.judge.specs.declared.Broken.{Broken}
 use Rattle.judge.specs.declared.Day.{Day}
 use Rattle.judge.specs.Inside.{listed}
-use Rattle.judge.specs.Look.{knownBy, forceBy}
 use Rattle.judge.specs.Fields.{broken, codeBy, pairBy, antigenAt, Shows, DayIs, Looks}
 use Rattle.judge.proofs.Collapse.{ie-2, ie-3, ie-4, ie-rest}
 use Rattle.judge.proofs.AtLaws.{code-two}

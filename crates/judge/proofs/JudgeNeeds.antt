@@ -18,7 +18,6 @@ use Rattle.index.specs.declared.Built.{Built}
 use Rattle.index.specs.declared.Built.the-variants.{Blocks, TooMany as NotBuilt}
 use Rattle.index.specs.Firsts.{firstsOf, indexOf, over, canBuild, builtOf, builtIn}
 use Rattle.index.proofs.OverLaws.{over-taken, length-over, index-size}
-use Rattle.judge.specs.declared.Judged.{Judged}
 use Rattle.judge.specs.declared.Judged.the-variants.{Done, TooMany}
 use Rattle.judge.specs.Judged.{findingsBy, judgedOf, judgedArea}
 

@@ -1,14 +1,14 @@
 -- What each need of the functions on a whole line asks.
 -- Assumes nothing.
 use mathlib.Core.Path.{_≡_, refl, sym, ap, _∙_}
-use mathlib.Core.List.{List, [], reverse}
-use Prim.Native.Nat.{ℕ, suc, _+_, _-_, _*_, _^_, _≤_, _<_}
+use mathlib.Core.List.{[], reverse}
+use Prim.Native.Nat.{ℕ, _+_, _-_, _*_, _^_, _≤_, _<_}
 use native.Mathlib.Omega.{arith}
 use borrow.Author.Needs.{needs}
 use lib.ListN.{length}
 use Rattle.house.specs.Text.{Text}
 use Rattle.lines.specs.Lines.{fieldsOf}
-use Rattle.lines.specs.Records.{Rec, IV, IP, II, IE, IN, IA, recordOf, recOf, recs}
+use Rattle.lines.specs.Records.{Rec, recordOf, recOf, recs}
 use Rattle.book.specs.declared.Sections.{Sections}
 use Rattle.rules.specs.Seen.{Setting, Seen}
 use Rattle.rules.specs.Rules.{brokenAt}
@@ -17,10 +17,10 @@ use Rattle.forms.specs.Leaves.{lowest}
 use Rattle.judge.specs.declared.Broken.{Broken}
 use Rattle.judge.specs.declared.Day.{Day}
 use Rattle.judge.specs.declared.Facts.{Facts}
-use Rattle.judge.specs.Inside.{Kept, kept, keep, listed}
+use Rattle.judge.specs.Inside.{kept, keep, listed}
 use Rattle.judge.specs.Fields.{broken, laterAt, Shows, DayIs, Looks, Blocked, Told}
 use Rattle.judge.proofs.Collapse.{other-rest}
-use Rattle.judge.proofs.FieldNeeds.{kind-at, plain}
+use Rattle.judge.proofs.FieldNeeds.{plain}
 use Rattle.judge.proofs.TurnLaws.{line-on, line-end}
 
 -- judge_plain

@@ -2,15 +2,14 @@
 -- Assumes nothing.
 use mathlib.Core.Path.{_≡_, refl, sym, ap, _∙_, subst}
 use mathlib.Core.Bool.{Bool, true, false, not, cond, _&&_, _||_}
-use mathlib.Core.List.{List, [], _∷_, _++_}
-use Prim.Native.Nat.{ℕ, zero, suc, _+_, _≤_, _<_}
+use mathlib.Core.List.{[], _∷_, _++_}
+use Prim.Native.Nat.{ℕ, zero, suc, _+_, _≤_}
 use native.Mathlib.Omega.{arith}
 use borrow.Author.Needs.{needs}
 use borrow.Author.Tests.{eq-eqb, ne-eqb, leb-true, leb-false}
 use lib.Dec.{eqb, leb}
 use lib.ListN.{length, drop, length-append}
 use Rattle.house.specs.Text.{Text, isEmpty}
-use Rattle.house.specs.Search.{halve}
 use Rattle.lines.specs.Lines.{fieldOf}
 use Rattle.lines.specs.Records.{Rec, recOf}
 use Rattle.book.specs.declared.Position.{Position}
@@ -20,12 +19,13 @@ use Rattle.book.specs.declared.Found.the-variants.{At, Absent}
 use Rattle.book.specs.declared.Standing.{Standing}
 use Rattle.book.specs.declared.Standing.the-variants.{Unknown, OutOfForce, InForce}
 use Rattle.book.specs.Book.{firstWidth, secondWidth, codeWidth, filled, codeText}
-use Rattle.book.specs.LookUp.{sectionStart, countIn, orderAt, foundAt, fits, foundIn, inForceAt, standingAt, standingIn}
+use Rattle.book.specs.LookUp.{fits, foundIn, inForceAt, standingAt, standingIn}
 use Rattle.book.proofs.WidthLaws.{code-parts}
+use Rattle.book.proofs.StandingLaws.{filled-long}
 use Rattle.rules.specs.Forms.{text, isMissing, isMisformed}
 use Rattle.forms.specs.Leaves.{lowest}
 use Rattle.forms.proofs.FieldLaws.{text-is, empty-true, empty-false}
-use Rattle.judge.specs.Look.{foundBy, isThere, isInForceIn, knownBy, forceBy}
+use Rattle.judge.specs.Look.{foundBy, knownBy, forceBy}
 use Rattle.judge.specs.Fields.{codeLater}
 
 -- a text with blanks behind it: as long as its width, unless it is longer
@@ -34,11 +34,6 @@ filled-fits zero [] h = refl
 filled-fits zero (b ∷ t) h = absurd (omega arith)
 filled-fits (suc w) [] h = ap suc (filled-fits w [] (omega arith))
 filled-fits (suc w) (b ∷ t) h = ap suc (filled-fits w t (omega arith))
-
-filled-long : (w : ℕ) (t : Text) → (w ≤ length (filled w t)) × (length t ≤ length (filled w t))
-filled-long zero t = (omega arith, omega arith)
-filled-long (suc w) [] = (omega (arith, filled-long w [] .0), omega arith)
-filled-long (suc w) (b ∷ t) = (omega (arith, filled-long w t .0), omega (arith, filled-long w t .1))
 
 -- two texts fit exactly if the code that they make is as long as a code of the kind
 fits-is : (k : ℕ) (a b : Text) → fits k a b ≡ eqb (length (codeText k a b)) (codeWidth k)

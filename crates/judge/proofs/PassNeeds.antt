@@ -2,22 +2,23 @@
 -- Assumes nothing.
 use mathlib.Core.Path.{_≡_, refl, sym, ap, _∙_}
 use mathlib.Core.Bool.{Bool, true, false, cond, _&&_}
-use mathlib.Core.List.{List, [], _∷_, reverse}
-use Prim.Native.Nat.{ℕ, zero, suc, _+_, _-_, _*_, _^_, _≤_, _<_}
+use mathlib.Core.List.{List}
+use Prim.Native.Nat.{ℕ, _+_, _-_, _*_, _^_, _≤_, _<_}
 use native.Mathlib.Omega.{arith}
 use borrow.Author.Needs.{needs}
 use borrow.Author.Tests.{leb-true, eqb-true, eqb-false, ne-eqb}
-use lib.Dec.{T, eqb, ltb, leb}
+use lib.Dec.{eqb, leb}
 use lib.ListN.{length, take, drop, length-drop}
 use lib.Seq.{length-take-le}
-use Rattle.house.specs.Text.{Text, run, all, digits, number, isDigit, front, count, within}
+use Rattle.house.specs.Text.{Text, all, digits, number, isDigit, front, count, within}
 use Rattle.house.specs.Key.{keyOf}
-use Rattle.house.specs.Dates.{isDate}
+use Rattle.house.specs.Dates.{isDate, isDay}
 use Rattle.house.proofs.Small.{both}
 use Rattle.lines.specs.declared.LineAt.{LineAt}
-use Rattle.lines.specs.Lines.{LineIs, fieldOf, fieldsOf, lengthen, pipe}
-use Rattle.lines.specs.Records.{Rec, II, IE, IN, IA, isKind, recordOf, recOf, recs}
+use Rattle.lines.specs.Lines.{LineIs, fieldOf, fieldsOf}
+use Rattle.lines.specs.Records.{Rec, II, IE, IA, isKind, recordOf, recOf, recs}
 use Rattle.lines.specs.Inside.{part, whole}
+use Rattle.lines.proofs.FieldLaws.{fields-few}
 use Rattle.ledger.specs.Ledger.{foundIn}
 use Rattle.rules.specs.Forms.{text, isSound}
 use Rattle.rules.specs.Places.{headKind}
@@ -36,9 +37,10 @@ use Rattle.judge.specs.declared.BlockAt.{BlockAt}
 use Rattle.judge.specs.declared.Day.{Day}
 use Rattle.judge.specs.declared.Facts.{Facts}
 use Rattle.judge.specs.Inside.{kept, keep}
-use Rattle.judge.specs.Walk.{partOf, span, Holds, BlockIs, OwnIs, OwnEnd, Ready, PartsIn, headAt, seenBy, seenWith, factsBy}
-use Rattle.judge.specs.Fields.{dayIn, dayBy, Shows, DayIs, Looks, Blocked, Told}
+use Rattle.judge.specs.Walk.{partOf, span, Holds, OwnIs, OwnEnd, Ready, PartsIn, headAt, seenBy, seenWith, factsBy}
+use Rattle.judge.specs.Fields.{dayIn, dayBy, DayIs, Looks, Told}
 use Rattle.judge.proofs.StepLaws.{holds-step}
+use Rattle.judge.proofs.FieldNeeds.{value-read}
 
 -- event_of
 pub event-is : (line a b c key : Text) → a ≡ fieldOf line 3 → b ≡ fieldOf line 6 → c ≡ fieldOf line 8 → key ≡ keyOf a b c → key ≡ eventOf (recOf line)
@@ -98,12 +100,12 @@ pub ruleset for-own-end = (needs, own-ii, own-none)
 
 -- eight digits are read whole
 date-value : (t : Text) → isDate t ≡ true → number t ≡ valueOf t
-unfolding isDate valueOf run digits
+unfolding isDate digits
 date-value t h =
-    let p = both (eqb (length t) 8 && all isDigit t) _ h in
+    let p = both (eqb (length t) 8 && all isDigit t) (isDay (number t)) h in
     let q = both (eqb (length t) 8) (all isDigit t) (p .0) in
     let n : length t ≡ 8 = eqb-true (length t) 8 (q .0) in
-    rw (n, q .1)
+    sym (value-read t (omega arith) (omega arith) (q .1))
 
 module _ (k : ℕ) (line head : Text) (v : Seen) (ke : k ≡ recordOf line) (lv : v .line ≡ recOf line) (hv : v .head ≡ recOf head) where
   kind-is : v .line .kind ≡ k
@@ -140,17 +142,6 @@ module _ (k : ℕ) (line head : Text) (v : Seen) (ke : k ≡ recordOf line) (lv 
       (λ z. rw z (dated 6 5 (rw z) refl (in-5 (recOf head))))
 
 -- judge_line
-
--- a line has no more fields than bytes
-pub fields-few : (t : Text) → length (fieldsOf t) ≤ length t
-unfolding fieldsOf lengthen
-fields-few [] = omega arith
-fields-few (b ∷ t) = go (eqb b pipe) (fieldsOf t) (fields-few t)
-  where
-    go : (e : Bool) (fs : List Text) → length fs ≤ length t → length (cond e ([] ∷ fs) (lengthen b fs)) ≤ suc (length t)
-    go true fs h = omega arith
-    go false [] h = omega arith
-    go false (x ∷ fs) h = omega arith
 
 module _ (file : Text) (at : ℕ) (l : LineAt) (k : ℕ) (st : State) (b : BlockAt) (g : Ready file at l k st b) where
   h : Holds file at st

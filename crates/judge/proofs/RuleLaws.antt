@@ -1,15 +1,17 @@
 -- The later rules of an II and an IE, each at its field.
 -- Assumes nothing.
-use mathlib.Core.Path.{_≡_, refl, sym, ap, _∙_}
+use mathlib.Core.Path.{_≡_, refl, ap, _∙_}
 use mathlib.Core.Bool.{Bool, true, false, not, cond, _&&_, _||_}
 use mathlib.Core.List.{List, [], _∷_, _++_, reverse, reverse-cons}
-use Prim.Native.Nat.{ℕ}
+use Prim.Native.Nat.{ℕ, suc, _+_}
+use native.Mathlib.Omega.{arith}
 use lib.Dec.{eqb}
-use Rattle.house.specs.Text.{Text, any, all, same}
+use Rattle.house.specs.Text.{any, all, count}
+use Rattle.house.proofs.Members.{count-append}
 use Rattle.lines.specs.Records.{Rec, II, IE}
 use Rattle.rules.specs.Forms.{text, isSound, isGiven, isRelaxed}
 use Rattle.rules.specs.Seen.{Setting, Seen}
-use Rattle.rules.specs.Codes.{bookKind, codeRead, codeIn, isKnown, dayIsSound, isInForce, pairKind, pairIn}
+use Rattle.rules.specs.Codes.{bookKind, codeIn, isKnown, dayIsSound, isInForce, pairKind, pairIn}
 use Rattle.rules.specs.Rules.{rule9, rule10, rule11, rule12, rule13, rule15, siteWrong, methodWrong, lacks, sameAntigen, sameCount, allIn, countsSound, setsDiffer}
 
 -- A LIST BACKWARDS HAS THE SAME ELEMENTS
@@ -39,6 +41,14 @@ all-snoc p (x ∷ xs) y = rw (all-snoc p xs y) (swap (p x) (p y) (all p xs))
 pub all-reverse : {A : Type 0} (p : A → Bool) (xs : List A) → all p (reverse xs) ≡ all p xs
 all-reverse p [] = refl
 all-reverse p (x ∷ xs) = rw (reverse-cons, all-snoc p (reverse xs) x, all-reverse p xs)
+
+pub count-reverse : {A : Type 0} (p : A → Bool) (xs : List A) → count p (reverse xs) ≡ count p xs
+count-reverse p [] = refl
+count-reverse p (x ∷ xs) = rw (reverse-cons, count-append p (reverse xs) (x ∷ []), count-reverse p xs) (go (p x))
+  where
+    go : (b : Bool) → count p xs + cond b 1 0 ≡ cond b (suc (count p xs)) (count p xs)
+    go true = omega arith
+    go false = omega arith
 
 -- THE RULES
 

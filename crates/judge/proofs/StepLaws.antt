@@ -12,22 +12,22 @@ use lib.ListN.{length, take, drop}
 use Rattle.house.specs.Text.{Text, those, count, front, isEmpty, within, joined}
 use Rattle.house.proofs.Small.{both, clash}
 use Rattle.lines.specs.declared.LineAt.{LineAt}
-use Rattle.lines.specs.Lines.{LineIs, linesOf, fieldsOf}
+use Rattle.lines.specs.Lines.{LineIs, linesOf}
 use Rattle.lines.specs.Records.{Rec, IP, II, IE, IN, IA, isKind, recordOf, recOf, recs}
 use Rattle.lines.specs.Inside.{part, whole}
 use Rattle.lines.proofs.LineLaws.{at-past}
 use Rattle.lines.proofs.PartLaws.{recs-past, recs-on, ended-inside, whole-step}
 use Rattle.ledger.proofs.AmongLaws.{those-append}
 use Rattle.rules.specs.Forms.{isSound}
-use Rattle.rules.specs.Places.{Place, placesFrom, placesOf, placesIn, noRec, nearest, isNumbered}
-use Rattle.rules.specs.Blocks.{isInBlock, joins, eventOf, nearestOf, blockIn, openAfter, hasSecond, firstOpen, beforeOpen, isRepeated}
-use Rattle.rules.specs.Seen.{Setting, seenAt}
-use Rattle.rules.specs.Findings.{Finding, fieldsFindings, lineFindings, findingsOf}
+use Rattle.rules.specs.Places.{placesOf, placesIn, noRec, nearest, isNumbered}
+use Rattle.rules.specs.Blocks.{isInBlock, joins, nearestOf, blockIn, openAfter, hasSecond, firstOpen, beforeOpen}
+use Rattle.rules.specs.Seen.{Setting}
+use Rattle.rules.specs.Findings.{lineFindings, findingsOf}
 use Rattle.judge.specs.declared.Span.{Span}
 use Rattle.judge.specs.declared.State.{State}
 use Rattle.judge.specs.declared.BlockAt.{BlockAt}
-use Rattle.judge.specs.Walk.{partOf, span, linesBefore, SpanIs, LinesAre, Holds, startState, BlockIs, headAt, seenOf, nextPlace, nextOf, nextSince, nextLast, nextRun, nextMany, nextFirst, nextIns, advanced, restOf}
-use Rattle.judge.proofs.WalkLaws.{no-recs, kind-is, back-step, recs-next, before-step, joins-open, inb-is, joined-is, from-is, block-is, seen-is}
+use Rattle.judge.specs.Walk.{span, linesBefore, SpanIs, LinesAre, Holds, startState, BlockIs, nextPlace, nextOf, nextSince, nextLast, nextRun, nextMany, nextFirst, nextIns, advanced, restOf}
+use Rattle.judge.proofs.WalkLaws.{no-recs, kind-is, back-step, recs-next, before-step, joins-open, inb-is, joined-is, from-is, block-is}
 
 -- PARTS
 

@@ -1,8 +1,8 @@
 -- One line of the walk, field by field: its findings, and what is left to find after it.
 -- Assumes nothing.
-use mathlib.Core.Path.{_≡_, refl, sym, ap, _∙_}
-use mathlib.Core.Bool.{Bool, true, false, not, cond, _&&_}
-use mathlib.Core.List.{List, [], _∷_, _++_}
+use mathlib.Core.Path.{_≡_, refl, ap, _∙_}
+use mathlib.Core.Bool.{Bool, true, false, not, _&&_}
+use mathlib.Core.List.{List, _++_}
 use Prim.Native.Nat.{ℕ, zero, suc, _+_, _-_, _≤_, _<_}
 use native.Mathlib.Numerals.{sub-one}
 use native.Mathlib.Omega.{arith}
@@ -15,18 +15,16 @@ use Rattle.lines.specs.Records.{Rec, II, IE, isKind, recordOf, recOf, recs}
 use Rattle.lines.specs.Inside.{part}
 use Rattle.ledger.specs.Ledger.{Event}
 use Rattle.rules.specs.Forms.{text}
-use Rattle.rules.specs.Places.{Place}
 use Rattle.rules.specs.Blocks.{adds, changes, deletes, eventOf, isRepeated}
 use Rattle.rules.specs.Seen.{Setting, Seen}
 use Rattle.rules.specs.Rules.{rule1, rule2, rule3, rule4, rule5, rule6, rule7, rule8, rule9, rule10, rule11, rule12, rule13, rule14, rule15, rule16, rule17, rule18, asks, afterToday, beforeBirth, rules, rulesIn, rulesOf, brokenAt}
 use Rattle.rules.specs.Codes.{isKnown, isInForce, dayIsSound, recordDay, pairIn}
-use Rattle.rules.specs.Findings.{Finding, found, fieldsFindings, lineFindings}
+use Rattle.rules.specs.Findings.{found, fieldsFindings, lineFindings}
 use Rattle.judge.specs.declared.Broken.{Broken}
-use Rattle.judge.specs.declared.Span.{Span}
 use Rattle.judge.specs.declared.State.{State}
 use Rattle.judge.specs.declared.BlockAt.{BlockAt}
 use Rattle.judge.specs.Inside.{Kept, kept, keep, listed}
-use Rattle.judge.specs.Walk.{partOf, span, linesBefore, Holds, BlockIs, OwnIs, headAt, seenBy, seenOf, restOf}
+use Rattle.judge.specs.Walk.{span, linesBefore, Holds, BlockIs, headAt, seenBy, seenOf, restOf}
 use Rattle.judge.proofs.KeepLaws.{keep-append}
 use Rattle.judge.proofs.WalkLaws.{seen-is}
 use Rattle.judge.proofs.StepLaws.{rest-step}

@@ -2,16 +2,14 @@
 -- Assumes nothing.
 use mathlib.Core.Path.{_≡_, refl, sym, ap, _∙_}
 use mathlib.Core.Bool.{Bool, true, false, cond, _&&_}
-use mathlib.Core.List.{List, [], _∷_, reverse, reverse-cons}
-use Prim.Native.Nat.{ℕ, suc, _+_, _-_, _*_, _^_, _≤_, _<_}
+use mathlib.Core.List.{List, reverse}
+use Prim.Native.Nat.{ℕ, _+_, _-_, _*_, _^_, _≤_, _<_}
 use native.Mathlib.Omega.{arith}
 use borrow.Author.Needs.{needs}
-use lib.Dec.{T, eqb}
 use lib.ListN.{length, take, drop}
 use lib.Seq.{take-all}
 use Rattle.house.specs.Text.{Text, any, front, count}
 use Rattle.house.proofs.Facts.{of-true}
-use Rattle.house.proofs.Members.{count-append}
 use Rattle.lines.specs.declared.LineAt.{LineAt}
 use Rattle.lines.specs.Lines.{LineIs, fieldsOf}
 use Rattle.lines.specs.Records.{Rec, IE, IN, isKind, recordOf, recOf, recs}
@@ -19,22 +17,22 @@ use Rattle.lines.specs.Inside.{part, whole}
 use Rattle.book.specs.declared.Sections.{Sections}
 use Rattle.ledger.specs.Ledger.{Event, foundIn}
 use Rattle.rules.specs.Blocks.{isInBlock, sameEvent, joins, nearestOf, openAfter, eventOf, isRepeated}
-use Rattle.rules.specs.Seen.{Setting, Seen}
+use Rattle.rules.specs.Seen.{Setting}
 use Rattle.rules.specs.Findings.{Finding, fieldsFindings, findingsOf, areaAfter}
-use Rattle.index.specs.Firsts.{indexOf, foundBefore, namedBefore}
+use Rattle.index.specs.Firsts.{indexOf, foundBefore}
 use Rattle.index.proofs.FindLaws.{found-named}
 use Rattle.index.proofs.StartLaws.{named-upto}
-use Rattle.judge.specs.declared.Span.{Span}
 use Rattle.judge.specs.declared.State.{State}
 use Rattle.judge.specs.declared.BlockAt.{BlockAt}
 use Rattle.judge.specs.declared.Facts.{Facts}
 use Rattle.judge.specs.declared.Turn.{Turn}
 use Rattle.judge.specs.Inside.{Kept, kept, keep}
 use Rattle.judge.specs.Look.{knownBy, forceBy, settingBy}
-use Rattle.judge.specs.Walk.{partOf, span, linesBefore, Holds, BlockIs, Ready, TurnIs, headAt, seenBy, seenOf, seenWith, factsBy, startState, advanced, restOf}
+use Rattle.judge.specs.Walk.{partOf, span, linesBefore, Holds, BlockIs, Ready, TurnIs, headAt, seenOf, seenWith, factsBy, startState, advanced, restOf}
 use Rattle.judge.specs.Fields.{Looks}
 use Rattle.judge.specs.Judged.{findingsBy}
 use Rattle.judge.proofs.KeepLaws.{keep-all}
+use Rattle.judge.proofs.RuleLaws.{count-reverse}
 use Rattle.judge.proofs.WalkLaws.{inb-is, from-is, repeated-is}
 use Rattle.lines.proofs.LineLaws.{at-past}
 use Rattle.judge.proofs.StepLaws.{holds-start, holds-step, rest-start, rest-end}
@@ -114,14 +112,6 @@ turn-fits file at st h l m = (omega (arith, h .n-small), omega (arith, h .place-
 pub ruleset for-turn = (needs, ready, turn-is, turn-fits)
 
 -- walk
-count-reverse : {A : Type 0} (p : A → Bool) (xs : List A) → count p (reverse xs) ≡ count p xs
-count-reverse p [] = refl
-count-reverse p (x ∷ xs) = rw (reverse-cons, count-append p (reverse xs) (x ∷ []), count-reverse p xs) (go (p x))
-  where
-    go : (b : Bool) → count p xs + cond b 1 0 ≡ cond b (suc (count p xs)) (count p xs)
-    go true = omega arith
-    go false = omega arith
-
 module _ (s : Setting) (file : Text) (area₀ : Text) where
   -- what is left of a file's findings, from a line on
   pub record Walking (at : ℕ) (st : State) (found : ℕ) (area : Text) : Type 0 where

@@ -10,7 +10,7 @@ use lib.Dec.{T, eqb, ltb}
 use lib.ListN.{length, take, drop, length-drop}
 use lib.Seq.{take-all}
 use Rattle.house.specs.Text.{Text, same, any, those, front, isEmpty}
-use Rattle.house.proofs.Small.{both, clash}
+use Rattle.house.proofs.Small.{both}
 use Rattle.house.proofs.Facts.{of-true}
 use Rattle.house.proofs.Decisions.{same-is}
 use Rattle.lines.specs.declared.LineAt.{LineAt}
@@ -19,14 +19,14 @@ use Rattle.lines.specs.Records.{Rec, II, IE, IN, IA, isKind, recordOf, recOf, r
 use Rattle.lines.specs.Inside.{part, whole}
 use Rattle.lines.proofs.PartLaws.{recs-append, recs-past, recs-on, part-empty, part-start, part-whole, part-split, ended-inside, recs-step}
 use Rattle.rules.specs.Forms.{fieldIn, text}
-use Rattle.rules.specs.Places.{Place, noRec, nearest, headOf}
+use Rattle.rules.specs.Places.{noRec, nearest, headOf}
 use Rattle.rules.specs.Blocks.{isInBlock, sameEvent, joins, eventOf, nearestOf, blockIn, openAfter, beforeOpen, beforeBlock, isRepeated}
 use Rattle.rules.specs.Seen.{Setting, seenAt}
-use Rattle.rules.proofs.BlockLaws.{Named, named}
+use Rattle.rules.proofs.BlockLaws.{named}
 use Rattle.judge.specs.declared.Span.{Span}
 use Rattle.judge.specs.declared.State.{State}
 use Rattle.judge.specs.declared.BlockAt.{BlockAt}
-use Rattle.judge.specs.Walk.{partOf, span, linesBefore, Holds, blockAt, BlockIs, headAt, seenBy, seenOf}
+use Rattle.judge.specs.Walk.{partOf, linesBefore, Holds, blockAt, BlockIs, headAt, seenBy, seenOf}
 
 recs-nil : recs [] ≡ []
 unfolding recs linesOf

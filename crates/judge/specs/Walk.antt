@@ -13,7 +13,7 @@ use Rattle.lines.specs.Records.{Rec, IP, II, IE, IN, IA, isKind, recordOf, recO
 use Rattle.lines.specs.Inside.{part, whole}
 use Rattle.ledger.specs.Ledger.{foundIn}
 use Rattle.index.specs.Firsts.{foundBefore}
-use Rattle.rules.specs.Places.{Place, placesFrom, nearest, isNumbered}
+use Rattle.rules.specs.Places.{placesFrom, nearest, isNumbered}
 use Rattle.rules.specs.Blocks.{isInBlock, joins, eventOf, nearestOf, openAfter, hasSecond, firstOpen, beforeOpen}
 use Rattle.rules.specs.Seen.{Setting, Seen}
 use Rattle.rules.specs.Findings.{Finding, lineFindings}

@@ -67,5 +67,15 @@ fields-le (suc f) (b ∷ t) = go (eqb b pipe) (fields-le f t) (fields-le (suc f)
     go true h k = omega arith
     go false h k = omega arith
 
+-- no more fields than bytes
+pub fields-few : (t : Text) → length (fieldsOf t) ≤ length t
+unfolding fieldsOf
+fields-few [] = omega arith
+fields-few (b ∷ t) = go (eqb b pipe) (fields-few t)
+  where
+    go : (v : Bool) → length (fieldsOf t) ≤ length t → length (cond v ([] ∷ fieldsOf t) (lengthen b (fieldsOf t))) ≤ suc (length t)
+    go true h = omega arith
+    go false h = omega (arith, lengthen-length b (fieldsOf t))
+
 pub field-first : (k : ℕ) (t : Text) → getD (fieldsOf t) k [] ≡ getD (fieldsOf (drop (fieldsLen k t) t)) 0 []
 field-first k t = rw (fields-after, getD-drop, add-zero)

@@ -69,18 +69,18 @@ run-says lo hi class t h =
     (leb→le lo (length t) (q .0), leb→le (length t) hi (q .1), p .1)
 
 module _ (l : Rec) (b : Named l) where
-  uli-length : length (text l 3) ≡ 9
+  pub uli-length : length (text l 3) ≡ 9
   unfolding isUli
   uli-length = let p = run-says 9 9 isDigit (text l 3) (b .uli) in omega arith
 
-  date-length : length (text l 6) ≡ 8
+  pub date-length : length (text l 6) ≡ 8
   unfolding isDate
   date-length =
       let p = both (eqb (length (text l 6)) 8 && digits (text l 6)) (isDay (number (text l 6))) (b .date) in
       let q = both (eqb (length (text l 6)) 8) (digits (text l 6)) (p .0) in
       eqb→eq (length (text l 6)) 8 (q .0)
 
-  code-says : (1 ≤ length (text l 8)) × (length (text l 8) ≤ 20) × T (all isGraphic (text l 8))
+  pub code-says : (1 ≤ length (text l 8)) × (length (text l 8) ≤ 20) × T (all isGraphic (text l 8))
   unfolding isCode
   code-says = run-says 1 20 isGraphic (text l 8) (b .code)
 

@@ -10,10 +10,11 @@ use lib.ListN.{length, length-append, length-drop, length-map}
 use Rattle.house.specs.Text.{Text, joined, those, count}
 use Rattle.house.proofs.Small.{clash}
 use Rattle.lines.specs.declared.Shape.the-variants.{Right, Fault}
-use Rattle.lines.specs.Lines.{Line, pipe, linesOf, lineOf, textLen, lineLen, lengthen, fieldsOf}
+use Rattle.lines.specs.Lines.{Line, linesOf, lineOf, textLen, lineLen}
 use Rattle.lines.specs.Records.{Rec, IN, isKind, recordOf, recOf, recs}
 use Rattle.lines.specs.Shape.{causeOf, cause7, shapeFrom, shapeOf}
 use Rattle.lines.proofs.LineLaws.{line-le, line-pos, lines-step}
+use Rattle.lines.proofs.FieldLaws.{fields-few}
 use Rattle.ledger.proofs.FoundLaws.{those-le}
 use Rattle.rules.specs.Places.{Place, placesFrom, placesOf, placesIn}
 use Rattle.rules.specs.Blocks.{beginsBlock, eventOf, eventsOf, adds, changes, deletes}
@@ -98,19 +99,6 @@ count-le p (l ∷ ls) = go (p l) (count-le p ls)
 abbrev fieldsIn : List Rec → ℕ
 fieldsIn [] = 0
 fieldsIn (l ∷ ls) = length (l .fields) + fieldsIn ls
-
-fields-few : (t : Text) → length (fieldsOf t) ≤ length t
-unfolding fieldsOf lengthen
-fields-few [] = omega arith
-fields-few (b ∷ t) = go (eqb b pipe) (fieldsOf t) (fields-few t)
-  where
-    same-many : (fs : List Text) → length (lengthen b fs) ≡ length fs
-    same-many [] = refl
-    same-many (g ∷ gs) = refl
-
-    go : (x : Bool) (fs : List Text) → length fs ≤ length t → length (cond x ([] ∷ fs) (lengthen b fs)) ≤ suc (length t)
-    go true fs h = omega arith
-    go false fs h = omega (arith, same-many fs)
 
 abbrev FewFields : Text → Type 0
 FewFields s = fieldsIn (recs s) ≤ length s
