@@ -302,7 +302,8 @@ fn shortest_repeats(world: &mut World) -> Vec<u8> {
     file.finish()
 }
 
-fn one_block(world: &mut World) -> Vec<u8> {
+/// One block, with as many lots as fit.
+fn lots_of(world: &mut World, add: fn(&mut Submission, &World, usize, &Dose)) -> Vec<u8> {
     let uli = world.uli();
     let (vaccine, mut dose) = world.new_dose(&uli);
     let mut file = Submission::new(world.size.file());
@@ -312,25 +313,20 @@ fn one_block(world: &mut World) -> Vec<u8> {
             break;
         }
         dose.lot = format!("L{lot}");
-        file.immunization(&dose);
-        file.antigen(&uli, &world.vaccine(vaccine).antigens[0], "1");
+        add(&mut file, world, vaccine, &dose);
     }
     file.finish()
 }
 
+fn one_block(world: &mut World) -> Vec<u8> {
+    lots_of(world, |file, world, vaccine, dose| {
+        file.immunization(dose);
+        file.antigen(&dose.uli, &world.vaccine(vaccine).antigens[0], "1");
+    })
+}
+
 fn antigens_of_the_book(world: &mut World) -> Vec<u8> {
-    let uli = world.uli();
-    let (vaccine, mut dose) = world.new_dose(&uli);
-    let mut file = Submission::new(world.size.file());
-    file.patient(&uli, "SMITH", BIRTH);
-    for lot in 1.. {
-        if !file.fits() {
-            break;
-        }
-        dose.lot = format!("L{lot}");
-        immunization(&mut file, world, vaccine, &dose);
-    }
-    file.finish()
+    lots_of(world, immunization)
 }
 
 fn one_immunization(world: &mut World) -> Vec<u8> {
