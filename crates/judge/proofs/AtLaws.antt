@@ -15,7 +15,8 @@ use Rattle.rules.specs.Seen.{Setting, Seen}
 use Rattle.rules.specs.Rules.{brokenAt}
 use Rattle.forms.specs.Leaves.{lowest}
 use Rattle.judge.specs.Inside.{some, listed}
-use Rattle.judge.specs.Fields.{broken, laterAt, codeLater, ledgerRule}
+use Rattle.later.specs.Fields.{broken, codeLater, ledgerRule}
+use Rattle.judge.specs.Fields.{laterAt}
 use Rattle.judge.proofs.Collapse.{when, one-rule, broken-split, sound-later, code-later, site-later, sounds, codes, sites, ledgers, iv-2, ii-4}
 
 -- at most two more rules, none of which is rule 0

@@ -19,7 +19,8 @@ use Rattle.rules.specs.Codes.{isSite, isMethod, bookKind, isCodeField, codeIn, 
 use Rattle.rules.specs.Rules.{rule1, rule2, rule3, rule4, rule5, rule6, rule7, rule8, rule9, rule10, rule11, rule12, rule13, rule14, rule15, rule16, rule17, rule18, asks, afterToday, beforeBirth, sameLot, rules, rulesIn, rulesOf, brokenAt}
 use Rattle.judge.specs.Inside.{some}
 use Rattle.forms.specs.Leaves.{lowest}
-use Rattle.judge.specs.Fields.{laterAt, codeLater}
+use Rattle.later.specs.Fields.{codeLater}
+use Rattle.judge.specs.Fields.{laterAt}
 
 abbrev pub when : Bool → ℕ → List ℕ
 when p n = cond p (n ∷ []) []

@@ -9,7 +9,7 @@ use borrow.Author.Tests.{ne-eqb, lt-ltb, le-ltb}
 use lib.ListN.{length, set, length-set}
 use Rattle.house.specs.Text.{Text}
 use Rattle.rules.specs.Findings.{Finding, found}
-use Rattle.judge.specs.declared.Broken.{Broken}
+use Rattle.later.specs.declared.Broken.{Broken}
 use Rattle.judge.specs.Inside.{Kept, kept, finding, put6, put, keep, some, listed}
 use Rattle.judge.proofs.KeepLaws.{keep-append}
 

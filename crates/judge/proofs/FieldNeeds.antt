@@ -23,11 +23,12 @@ use Rattle.rules.specs.Rules.{afterToday, beforeBirth, brokenAt}
 use Rattle.texts.specs.Leaves.{valueOf}
 use Rattle.forms.specs.Leaves.{lowest, numberLater, numberRule, uliLater, uliRule, dayLater, dayRule, bornAfter, dateLater, dateRule, versionLater, versionRule}
 use Rattle.forms.proofs.FieldLaws.{text-is}
-use Rattle.judge.specs.declared.Broken.{Broken}
-use Rattle.judge.specs.declared.Day.{Day}
+use Rattle.later.specs.declared.Broken.{Broken}
+use Rattle.later.specs.declared.Day.{Day}
 use Rattle.judge.specs.Inside.{listed}
-use Rattle.judge.specs.Look.{knownBy, forceBy}
-use Rattle.judge.specs.Fields.{broken, laterAt, codeLater, Shows, DayIs, Looks}
+use Rattle.later.specs.Look.{knownBy, forceBy}
+use Rattle.later.specs.Fields.{broken, codeLater}
+use Rattle.judge.specs.Fields.{laterAt, Shows, DayIs, Looks}
 use Rattle.judge.proofs.Collapse.{sounds, codes, iv-rest, ip-2, ip-25, ip-rest, in-2, in-3, in-5, in-6, in-rest, ia-2, ia-3, ia-4, ia-rest}
 use Rattle.judge.proofs.AtLaws.{plain-at, sound-at, code-at, version-at}
 

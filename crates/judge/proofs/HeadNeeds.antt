@@ -16,23 +16,15 @@ use Rattle.rules.specs.Codes.{bookKind, codeRead, codeIn, dayIsSound, isInForce
 use Rattle.rules.specs.Rules.{sameAntigen, rule11, rule12, brokenAt}
 use Rattle.forms.specs.Leaves.{lowest, numberRule, uliRule}
 use Rattle.forms.proofs.FieldLaws.{text-is}
-use Rattle.judge.specs.declared.Broken.{Broken}
-use Rattle.judge.specs.declared.Day.{Day}
+use Rattle.later.specs.declared.Broken.{Broken}
+use Rattle.later.specs.declared.Day.{Day}
 use Rattle.judge.specs.Inside.{listed}
-use Rattle.judge.specs.Fields.{broken, codeBy, pairBy, antigenAt, Shows, DayIs, Looks}
+use Rattle.later.specs.Fields.{broken, codeBy, pairBy, antigenAt}
+use Rattle.judge.specs.Fields.{Shows, DayIs, Looks}
 use Rattle.judge.proofs.Collapse.{ie-2, ie-3, ie-4, ie-rest}
 use Rattle.judge.proofs.AtLaws.{code-two}
 use Rattle.judge.proofs.RuleLaws.{any-reverse, eleven-ie, twelve}
 use Rattle.judge.proofs.FieldNeeds.{mandatory, kind-at, plain, number-at, uli-at, known-same, force-same, code-is}
-
--- antigen_at
-pub antigen-is : (line head since book : Text) (q : Sections) (day : Day) (t : Text) (a b c : ℕ) → t ≡ fieldOf line 4 → a ≡ codeBy 5 (recOf line) 4 2 t book q day
-    → b ≡ pairBy 5 (recOf line) 4 2 t 8 (recOf head) book q day → c ≡ cond (isSound 5 (recOf line) 4 && any (sameAntigen (recOf line)) (recs since)) 12 0
-    → broken a b c ≡ antigenAt line head since book q day
-unfolding antigenAt
-antigen-is line head since book q day t a b c p x y z = rw (x, y, z, p)
-
-pub ruleset for-antigen = (needs, antigen-is)
 
 -- RULE 11
 

@@ -10,13 +10,11 @@ pub mod TurnLaws
 pub mod Collapse
 pub mod AtLaws
 pub mod RuleLaws
-pub mod LookLaws
 pub mod SettingLaws
 -- What the functions' own needs ask
 mod EmitNeeds
 mod WalkNeeds
 mod FieldNeeds
-mod LaterNeeds
 mod HeadNeeds
 mod LineNeeds
 mod PassNeeds

@@ -14,11 +14,12 @@ use Rattle.rules.specs.Seen.{Setting, Seen}
 use Rattle.rules.specs.Rules.{brokenAt}
 use Rattle.rules.specs.Findings.{found, fieldsFindings}
 use Rattle.forms.specs.Leaves.{lowest}
-use Rattle.judge.specs.declared.Broken.{Broken}
-use Rattle.judge.specs.declared.Day.{Day}
-use Rattle.judge.specs.declared.Facts.{Facts}
+use Rattle.later.specs.declared.Broken.{Broken}
+use Rattle.later.specs.declared.Day.{Day}
+use Rattle.later.specs.declared.Facts.{Facts}
 use Rattle.judge.specs.Inside.{kept, keep, listed}
-use Rattle.judge.specs.Fields.{broken, laterAt, Shows, DayIs, Looks, Blocked, Told}
+use Rattle.later.specs.Fields.{broken}
+use Rattle.judge.specs.Fields.{laterAt, Shows, DayIs, Looks, Blocked, Told}
 use Rattle.judge.proofs.Collapse.{other-rest}
 use Rattle.judge.proofs.FieldNeeds.{plain}
 use Rattle.judge.proofs.TurnLaws.{line-on, line-end}

@@ -34,8 +34,8 @@ use Rattle.book.specs.declared.Sections.{Sections}
 use Rattle.judge.specs.declared.Span.{Span}
 use Rattle.judge.specs.declared.State.{State}
 use Rattle.judge.specs.declared.BlockAt.{BlockAt}
-use Rattle.judge.specs.declared.Day.{Day}
-use Rattle.judge.specs.declared.Facts.{Facts}
+use Rattle.later.specs.declared.Day.{Day}
+use Rattle.later.specs.declared.Facts.{Facts}
 use Rattle.judge.specs.Inside.{kept, keep}
 use Rattle.judge.specs.Walk.{partOf, span, Holds, OwnIs, OwnEnd, Ready, PartsIn, headAt, seenBy, seenWith, factsBy}
 use Rattle.judge.specs.Fields.{dayIn, dayBy, DayIs, Looks, Told}

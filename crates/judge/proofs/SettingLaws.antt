@@ -28,8 +28,9 @@ use Rattle.book.proofs.KindLaws.{none-sound}
 use Rattle.book.proofs.StandingLaws.{saysInForce, look-in-force, absent-known, found-known}
 use Rattle.ledger.specs.Ledger.{Event, ledgerOk, liveIn, isAmong, foundIn}
 use Rattle.ledger.proofs.FoundLaws.{found-live}
-use Rattle.judge.specs.Look.{foundBy, isThere, isInForceIn, knownBy, forceBy, settingBy}
-use Rattle.judge.proofs.LookLaws.{found-is}
+use Rattle.later.specs.Look.{foundBy, isThere, isInForceIn, knownBy, forceBy}
+use Rattle.judge.specs.Look.{settingBy}
+use Rattle.later.proofs.LookLaws.{found-is}
 
 filled-whole : (w : ℕ) (t : Text) → length t ≡ w → filled w t ≡ t
 filled-whole zero t e = refl

@@ -20,7 +20,7 @@ use Rattle.rules.specs.Seen.{Setting, Seen}
 use Rattle.rules.specs.Rules.{rule1, rule2, rule3, rule4, rule5, rule6, rule7, rule8, rule9, rule10, rule11, rule12, rule13, rule14, rule15, rule16, rule17, rule18, asks, afterToday, beforeBirth, rules, rulesIn, rulesOf, brokenAt}
 use Rattle.rules.specs.Codes.{isKnown, isInForce, dayIsSound, recordDay, pairIn}
 use Rattle.rules.specs.Findings.{found, fieldsFindings, lineFindings}
-use Rattle.judge.specs.declared.Broken.{Broken}
+use Rattle.later.specs.declared.Broken.{Broken}
 use Rattle.judge.specs.declared.State.{State}
 use Rattle.judge.specs.declared.BlockAt.{BlockAt}
 use Rattle.judge.specs.Inside.{Kept, kept, keep, listed}

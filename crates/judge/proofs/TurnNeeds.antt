@@ -24,10 +24,11 @@ use Rattle.index.proofs.FindLaws.{found-named}
 use Rattle.index.proofs.StartLaws.{named-upto}
 use Rattle.judge.specs.declared.State.{State}
 use Rattle.judge.specs.declared.BlockAt.{BlockAt}
-use Rattle.judge.specs.declared.Facts.{Facts}
+use Rattle.later.specs.declared.Facts.{Facts}
 use Rattle.judge.specs.declared.Turn.{Turn}
 use Rattle.judge.specs.Inside.{Kept, kept, keep}
-use Rattle.judge.specs.Look.{knownBy, forceBy, settingBy}
+use Rattle.later.specs.Look.{knownBy, forceBy}
+use Rattle.judge.specs.Look.{settingBy}
 use Rattle.judge.specs.Walk.{partOf, span, linesBefore, Holds, BlockIs, Ready, TurnIs, headAt, seenOf, seenWith, factsBy, startState, advanced, restOf}
 use Rattle.judge.specs.Fields.{Looks}
 use Rattle.judge.specs.Judged.{findingsBy}

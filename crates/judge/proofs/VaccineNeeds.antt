@@ -18,60 +18,18 @@ use Rattle.rules.specs.Codes.{isSite, isMethod, bookKind, reasonRead, codeRead,
 use Rattle.rules.specs.Rules.{siteWrong, methodWrong, lacks, countsSound, setsDiffer, sameLot, rule9, rule10, rule11, rule13, rule15, brokenAt}
 use Rattle.forms.specs.Leaves.{lowest, numberRule, uliRule, dateRule, lotLater, lotRule}
 use Rattle.forms.proofs.FieldLaws.{text-is}
-use Rattle.judge.specs.declared.Broken.{Broken}
-use Rattle.judge.specs.declared.Day.{Day}
-use Rattle.judge.specs.declared.Facts.{Facts}
+use Rattle.later.specs.declared.Broken.{Broken}
+use Rattle.later.specs.declared.Day.{Day}
+use Rattle.later.specs.declared.Facts.{Facts}
 use Rattle.judge.specs.Inside.{listed}
-use Rattle.judge.specs.Look.{knownBy, forceBy}
-use Rattle.judge.specs.Fields.{broken, codeLater, ledgerRule, codeBy, pairBy, lackBy, typeAt, vaccineAt, siteAt, methodAt, reasonAt, dosageAt, dosageTypeAt, Shows, DayIs, Looks, Blocked}
+use Rattle.later.specs.Look.{knownBy, forceBy}
+use Rattle.later.specs.Fields.{broken, codeLater, ledgerRule, codeBy, pairBy, lackBy, typeAt, vaccineAt, siteAt, methodAt, reasonAt, dosageAt, dosageTypeAt}
+use Rattle.judge.specs.Fields.{Shows, DayIs, Looks, Blocked}
 use Rattle.judge.proofs.Collapse.{ii-2, ii-3, ii-6, ii-8, ii-9, ii-10, ii-11, ii-12, ii-13, ii-14, ii-15, ii-rest}
 use Rattle.judge.proofs.AtLaws.{more-at, sound-at, code-more, code-two, site-two, ledger-at}
 use Rattle.judge.proofs.RuleLaws.{any-reverse, nine-9, nine-10, ten-9, ten-10, ten-12, ten-13, eleven-ii, thirteen, fifteen, sets-back}
 use Rattle.judge.proofs.FieldNeeds.{low-same, mandatory, plain, number-at, uli-at, date-at, code-need, code-read, code-is}
 use Rattle.judge.proofs.HeadNeeds.{pair-is, ruled, three-same}
-
--- THE FIELDS WITH MORE THAN ONE RULE
-
-module _ (l : Rec) (a b c : ℕ) where
-  pub site-is : a ≡ lowest 4 l 9 (codeLater (isEmpty (text l 9)) (isSite (text l 9)) false)
-      → b ≡ cond (siteWrong (text l 9) (text l 10) && (isGiven 4 l 9 && isGiven 4 l 10)) 9 0
-      → c ≡ lackBy l 9 10 → broken a b c ≡ siteAt l
-  unfolding siteAt
-  site-is x y z = rw (x, y, z)
-
-  pub method-is : a ≡ lowest 4 l 10 (codeLater (isEmpty (text l 10)) (isMethod (text l 10)) false)
-      → b ≡ cond (methodWrong (text l 9) (text l 10) && (isGiven 4 l 9 && isGiven 4 l 10)) 9 0
-      → c ≡ lackBy l 10 9 → broken a b c ≡ methodAt l
-  unfolding methodAt
-  method-is x y z = rw (x, y, z)
-
-  pub dosage-is : a ≡ lowest 4 l 12 0 → b ≡ lackBy l 12 13 → broken a b 0 ≡ dosageAt l
-  unfolding dosageAt
-  dosage-is x y = rw (x, y)
-
-module _ (line : Text) (a b c : ℕ) where
-  pub type-is : (facts : Facts) → a ≡ lowest 4 (recOf line) 4 0 → b ≡ ledgerRule (facts .inb) (text (recOf line) 4) (facts .live) → broken a b 0 ≡ typeAt line facts
-  unfolding typeAt
-  type-is facts x y = rw (x, y)
-
-  pub vaccine-is : (own first book : Text) (q : Sections) (day : Day) (facts : Facts) (t : Text) → t ≡ fieldOf line 8 → a ≡ codeBy 4 (recOf line) 8 1 t book q day
-      → b ≡ cond (facts .joined && (countsSound (recs own) && (countsSound (recs first) && setsDiffer (recs own) (recs first)))) 13 0
-      → c ≡ cond (facts .repeated) 15 0 → broken a b c ≡ vaccineAt line own first book q day facts
-  unfolding vaccineAt
-  vaccine-is own first book q day facts t p x y z = rw (x, y, z, p)
-
-module _ (line book : Text) (q : Sections) (day : Day) (a b : ℕ) where
-  pub reason-is : (t r : Text) → t ≡ fieldOf line 11 → r ≡ pad 2 (reasonRead t) → a ≡ codeBy 4 (recOf line) 11 3 r book q day
-      → b ≡ pairBy 4 (recOf line) 11 3 r 7 (recOf line) book q day → broken a b 0 ≡ reasonAt line book q day
-  unfolding reasonAt
-  reason-is t r p w x y = rw (x, y, w, p)
-
-  pub dosage-type-is : (t : Text) → t ≡ fieldOf line 13 → a ≡ codeBy 4 (recOf line) 13 5 t book q day → b ≡ lackBy (recOf line) 13 12
-      → broken a b 0 ≡ dosageTypeAt line book q day
-  unfolding dosageTypeAt
-  dosage-type-is t p x y = rw (x, y, p)
-
-pub ruleset for-parts = (needs, type-is, vaccine-is, site-is, method-is, reason-is, dosage-is, dosage-type-is)
 
 -- II 11: A REASON THAT IS SOUND FILLS TWO BYTES
 

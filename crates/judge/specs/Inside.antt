@@ -7,7 +7,7 @@ use lib.ListN.{length, set}
 use lib.Dec.{eqb, ltb}
 use Rattle.house.specs.Text.{Text}
 use Rattle.rules.specs.Findings.{Finding}
-use Rattle.judge.specs.declared.Broken.{Broken}
+use Rattle.later.specs.declared.Broken.{Broken}
 
 -- how many findings there are, and their area
 pub record Kept : Type 0 where

@@ -20,7 +20,7 @@ use Rattle.rules.specs.Findings.{Finding, lineFindings}
 use Rattle.judge.specs.declared.Span.{Span}
 use Rattle.judge.specs.declared.State.{State}
 use Rattle.judge.specs.declared.BlockAt.{BlockAt}
-use Rattle.judge.specs.declared.Facts.{Facts}
+use Rattle.later.specs.declared.Facts.{Facts}
 use Rattle.judge.specs.declared.Turn.{Turn}
 use Rattle.judge.specs.Inside.{kept, keep}
 

@@ -1,5 +1,5 @@
 // The writer of findings: counts each, and writes those that fit.
-use crate::Broken;
+use later::Broken;
 ghost use mathlib.Core.Path.{_≡_};
 ghost use Prim.Native.Nat.{_+_, _^_, _≤_, _<_};
 ghost use lib.ListN.{length};

@@ -1,10 +1,7 @@
 // The rules that are broken at a field, by the kind of its record and its number.
-use crate::Broken;
-use crate::Day;
-use crate::codes::code_rule;
-use crate::codes::pair_rule;
-use crate::later::again_rule;
 use book::Sections;
+use later::Broken;
+use later::Day;
 use lines::IA;
 use lines::IE;
 use lines::IN;
@@ -16,7 +13,7 @@ ghost use Rattle.lines.specs.Records.{recordOf, recOf, recs};
 ghost use Rattle.rules.specs.Seen.{Setting, Seen};
 ghost use Rattle.rules.specs.Rules.{brokenAt};
 ghost use Rattle.judge.specs.Inside.{listed};
-ghost use Rattle.judge.specs.Fields.{Shows, DayIs, Looks, antigenAt, laterAt};
+ghost use Rattle.judge.specs.Fields.{Shows, DayIs, Looks, laterAt};
 
 // One rule, or none.
 pub(crate) fn one(a: u8) -> Broken
@@ -74,7 +71,7 @@ pub(crate) fn judge_in(
         2 => one(forms::number_rule(IN, line, place)),
         3 => one(forms::uli_rule(IN, line, ip)),
         5 => one(forms::date_rule(IN, line, 5, today, ip)),
-        6 => one(code_rule(IN, line, 6, 6, lines::field_of(line, 6), book, q, day)),
+        6 => one(later::code_rule(IN, line, 6, 6, lines::field_of(line, 6), book, q, day)),
         _ => one(forms::basic_rule(IN, line, f)),
     }
 }
@@ -96,20 +93,9 @@ pub(crate) fn judge_ia(
     match f {
         2 => one(forms::number_rule(IA, line, place)),
         3 => one(forms::uli_rule(IA, line, ip)),
-        4 => one(code_rule(IA, line, 4, 2, lines::field_of(line, 4), book, q, day)),
+        4 => one(later::code_rule(IA, line, 4, 2, lines::field_of(line, 4), book, q, day)),
         _ => one(forms::basic_rule(IA, line, f)),
     }
-}
-
-// IE 4: rules 1, 2, 4, 5, 11 and 12.
-fn antigen_at(line: &[u8], head: &[u8], since: &[u8], book: &[u8], q: Sections, day: Day) -> Broken
-    ensures { λ r. ⌜ r ≡ antigenAt (now (line .entry)) (now (head .entry)) (now (since .entry)) (now (book .entry)) q day ⌝ }
-{
-    let t = lines::field_of(line, 4);
-    let a = code_rule(IE, line, 4, 2, t, book, q, day);
-    let b = pair_rule(IE, line, 4, 2, t, 8, head, book, q, day);
-    let c = again_rule(line, since);
-    Broken { a, b, c }
 }
 
 // Field f of an IE.
@@ -131,7 +117,7 @@ pub(crate) fn judge_ie(
     match f {
         2 => one(forms::number_rule(IE, line, place)),
         3 => one(forms::uli_rule(IE, line, ip)),
-        4 => antigen_at(line, head, since, book, q, day),
+        4 => later::antigen_at(line, head, since, book, q, day),
         _ => one(forms::basic_rule(IE, line, f)),
     }
 }

@@ -1,8 +1,6 @@
 // Judging a file: every broken rule of every field, once, in order; the findings counted, and those that fit written.
-mod codes;
 mod emit;
 mod fields;
-mod later;
 mod line;
 mod look;
 mod pass;
@@ -10,13 +8,6 @@ mod vaccine;
 mod walk;
 
 pub use pass::judge;
-
-// Up to three rules that are broken at a field, 0 for none.
-struct Broken {
-    a: u8,
-    b: u8,
-    c: u8,
-}
 
 // A part of the file.
 struct Span {
@@ -46,21 +37,6 @@ struct BlockAt {
     inb: bool,
     joined: bool,
     from: usize,
-}
-
-// The day of a record: whether its field is sound, and the number that it writes.
-struct Day {
-    sound: bool,
-    number: u32,
-}
-
-// What is known of an II: whether it is in a block, whether it joins the open one, whether an earlier block names its event, and whether
-// its event is live.
-struct Facts {
-    inb: bool,
-    joined: bool,
-    repeated: bool,
-    live: bool,
 }
 
 // The walk after a line: where the next one starts, the state there, and how many findings there are so far.

@@ -1,7 +1,4 @@
 // The fields of a line, each judged by the kind of its record.
-use crate::Broken;
-use crate::Day;
-use crate::Facts;
 use crate::emit::emit;
 use crate::fields::judge_ia;
 use crate::fields::judge_ie;
@@ -11,6 +8,9 @@ use crate::fields::judge_iv;
 use crate::fields::judge_plain;
 use crate::vaccine::judge_ii;
 use book::Sections;
+use later::Broken;
+use later::Day;
+use later::Facts;
 ghost use mathlib.Core.Path.{_≡_};
 ghost use Prim.Native.Nat.{_+_, _*_, _^_, _≤_, _<_};
 ghost use lib.ListN.{length};

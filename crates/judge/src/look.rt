@@ -1,7 +1,7 @@
 // What is known of a line before its fields are judged: its day, and what the index and the ledger say of its event.
 use crate::BlockAt;
-use crate::Day;
-use crate::Facts;
+use later::Day;
+use later::Facts;
 use lines::II;
 use lines::IN;
 ghost use mathlib.Core.Path.{_≡_};

@@ -1,7 +1,5 @@
 // The pass over a file: each line judged in turn.
 use crate::BlockAt;
-use crate::Day;
-use crate::Facts;
 use crate::Judged;
 use crate::Span;
 use crate::State;
@@ -16,6 +14,8 @@ use crate::walk::head_at;
 use crate::walk::ie_end;
 use book::Sections;
 use index::Built;
+use later::Day;
+use later::Facts;
 use lines::LineAt;
 ghost use mathlib.Core.Path.{_≡_};
 ghost use mathlib.Core.Bool.{true};

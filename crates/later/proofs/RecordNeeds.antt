@@ -1,0 +1,115 @@
+-- What each need of the functions on an II's and an IE's later rules asks.
+-- Assumes nothing.
+use mathlib.Core.Path.{_≡_, refl, sym, ap, _∙_}
+use mathlib.Core.Bool.{Bool, true, false, cond, _&&_}
+use mathlib.Core.List.{List, [], _∷_}
+use Prim.Native.Nat.{ℕ}
+use borrow.Author.Needs.{needs}
+use lib.ListN.{length}
+use Rattle.house.specs.Text.{Text, same, isEmpty}
+use Rattle.lines.specs.Lines.{fieldOf, fieldsOf}
+use Rattle.lines.specs.Records.{Rec, recOf}
+use Rattle.rules.specs.Forms.{text, isGiven, isRelaxed, relaxedBy}
+use Rattle.rules.specs.Codes.{isSite, isMethod}
+use Rattle.rules.specs.Rules.{siteWrong, methodWrong}
+use Rattle.forms.specs.Leaves.{lowest}
+use Rattle.forms.proofs.FieldLaws.{text-is, relaxed-is}
+use Rattle.later.specs.Fields.{codeLater, ledgerRule}
+use Rattle.later.proofs.LookLaws.{low-broken, code-empty, code-given}
+
+-- a rule of tests that are asked one after the other
+module _ (u v : Bool) (n : ℕ) (x : Bool) (e : x ≡ u) where
+  pub asked-no : x ≡ false → 0 ≡ cond (u && v) n 0
+  asked-no h = rw (← e, h)
+
+  module _ (h : x ≡ true) (y : Bool) (f : y ≡ v) where
+    pub asked-not : y ≡ false → 0 ≡ cond (u && v) n 0
+    asked-not k = rw (← e, h, ← f, k)
+
+    pub asked-yes : y ≡ true → n ≡ cond (u && v) n 0
+    asked-yes k = rw (← e, h, ← f, k)
+
+-- site_rule, method_rule
+module _ (known : Bool) where
+  pub site-known : (x : Bool) → x ≡ known → x ≡ true → 0 ≡ codeLater false known false
+  unfolding codeLater
+  site-known x e h = rw (← e, h)
+
+  pub site-unknown : (x : Bool) → x ≡ known → x ≡ false → 4 ≡ codeLater false known false
+  unfolding codeLater
+  site-unknown x e h = rw (← e, h)
+
+pub site-read : (line t : Text) (f : ℕ) (x : Bool) → t ≡ fieldOf line f → x ≡ isSite t → x ≡ isSite (text (recOf line) f)
+site-read line t f x p e = rw (text-is line f, ← p) e
+
+pub method-read : (line t : Text) (f : ℕ) (x : Bool) → t ≡ fieldOf line f → x ≡ isMethod t → x ≡ isMethod (text (recOf line) f)
+method-read line t f x p e = rw (text-is line f, ← p) e
+
+pub ruleset for-site = (needs, low-broken, code-empty, code-given, site-known, site-unknown, site-read, method-read)
+
+-- site_against, method_against
+module _ (line s m : Text) (p : s ≡ fieldOf line 9) (q : m ≡ fieldOf line 10) (x : Bool) where
+  pub site-two : x ≡ siteWrong s m → x ≡ siteWrong (text (recOf line) 9) (text (recOf line) 10)
+  site-two e = rw (text-is line 9, text-is line 10, ← p, ← q) e
+
+  pub method-two : x ≡ methodWrong s m → x ≡ methodWrong (text (recOf line) 9) (text (recOf line) 10)
+  method-two e = rw (text-is line 9, text-is line 10, ← p, ← q) e
+
+pub relaxed-read : (line : Text) (x : Bool) → x ≡ relaxedBy (fieldsOf line) → x ≡ isRelaxed (recOf line)
+relaxed-read line x e = rw (relaxed-is line) e
+
+pub ruleset for-asked = (needs, asked-no, asked-not, asked-yes, site-two, method-two, relaxed-read)
+
+-- set_rule
+module _ (r : ℕ) (a b c d : Bool) where
+  pub set-a : a ≡ false → 0 ≡ cond (a && (b && (c && d))) r 0
+  set-a h = rw h
+
+  module _ (h : a ≡ true) (x : Bool) (e : x ≡ b) where
+    pub set-b : x ≡ false → 0 ≡ cond (a && (b && (c && d))) r 0
+    set-b k = rw (h, ← e, k)
+
+    module _ (k : x ≡ true) (y : Bool) (f : y ≡ c) where
+      pub set-c : y ≡ false → 0 ≡ cond (a && (b && (c && d))) r 0
+      set-c m = rw (h, ← e, k, ← f, m)
+
+      module _ (m : y ≡ true) (z : Bool) (g : z ≡ d) where
+        pub set-d : z ≡ false → 0 ≡ cond (a && (b && (c && d))) r 0
+        set-d n = rw (h, ← e, k, ← f, m, ← g, n)
+
+        pub set-all : z ≡ true → r ≡ cond (a && (b && (c && d))) r 0
+        set-all n = rw (h, ← e, k, ← f, m, ← g, n)
+
+pub ruleset for-set = (needs, set-a, set-b, set-c, set-d, set-all)
+
+-- ledger_rule
+module _ (inb live : Bool) (line : Text) where
+  pub ledger-out : inb ≡ false → 0 ≡ ledgerRule inb (text (recOf line) 4) live
+  unfolding ledgerRule
+  ledger-out h = rw h
+
+  module _ (h : inb ≡ true) (t : Text) (p : t ≡ fieldOf line 4) where
+    module _ (l : live ≡ true) (x : Bool) (e : x ≡ same t (65 ∷ [])) where
+      pub ledger-add : x ≡ true → 16 ≡ ledgerRule inb (text (recOf line) 4) live
+      unfolding ledgerRule
+      ledger-add k = rw (h, l, text-is line 4, ← p, ← e, k)
+
+      pub ledger-live : x ≡ false → 0 ≡ ledgerRule inb (text (recOf line) 4) live
+      unfolding ledgerRule
+      ledger-live k = rw (h, l, text-is line 4, ← p, ← e, k)
+
+    module _ (l : live ≡ false) (x : Bool) (e : x ≡ same t (67 ∷ [])) where
+      pub ledger-change : x ≡ true → 17 ≡ ledgerRule inb (text (recOf line) 4) live
+      unfolding ledgerRule
+      ledger-change k = rw (h, l, text-is line 4, ← p, ← e, k)
+
+      module _ (k : x ≡ false) (y : Bool) (f : y ≡ same t (68 ∷ [])) where
+        pub ledger-delete : y ≡ true → 18 ≡ ledgerRule inb (text (recOf line) 4) live
+        unfolding ledgerRule
+        ledger-delete m = rw (h, l, text-is line 4, ← p, ← e, k, ← f, m)
+
+        pub ledger-other : y ≡ false → 0 ≡ ledgerRule inb (text (recOf line) 4) live
+        unfolding ledgerRule
+        ledger-other m = rw (h, l, text-is line 4, ← p, ← e, k, ← f, m)
+
+pub ruleset for-ledger = (needs, ledger-out, ledger-add, ledger-live, ledger-change, ledger-delete, ledger-other)

@@ -1,0 +1,15 @@
+-- `later::fields::antigen_at` meets its contract.
+-- Assumes nothing.
+use Rattle.later.proofs.FieldNeeds.{for-antigen}
+use Rattle.later.proofs.fields.antigen_at.Statement.{statement}
+use Rattle.later.proofs.fields.antigen_at.Tie as tie
+
+pub antigen-at-spec : {M : Type 1} → statement M
+antigen-at-spec =
+    tie.close
+    (tie.spec
+    (λ c. search for-antigen)
+    (λ c. search for-antigen)
+    (λ c. search for-antigen)
+    (λ c. search for-antigen)
+    (λ c. search for-antigen))

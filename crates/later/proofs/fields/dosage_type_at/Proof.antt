@@ -1,0 +1,14 @@
+-- `later::fields::dosage_type_at` meets its contract.
+-- Assumes nothing.
+use Rattle.later.proofs.FieldNeeds.{for-parts}
+use Rattle.later.proofs.fields.dosage_type_at.Statement.{statement}
+use Rattle.later.proofs.fields.dosage_type_at.Tie as tie
+
+pub dosage-type-at-spec : {M : Type 1} → statement M
+dosage-type-at-spec =
+    tie.close
+    (tie.spec
+    (λ c. search for-parts)
+    (λ c. search for-parts)
+    (λ c. search for-parts)
+    (λ c. search for-parts))

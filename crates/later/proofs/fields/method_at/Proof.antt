@@ -1,0 +1,14 @@
+-- `later::fields::method_at` meets its contract.
+-- Assumes nothing.
+use Rattle.later.proofs.FieldNeeds.{for-parts}
+use Rattle.later.proofs.fields.method_at.Statement.{statement}
+use Rattle.later.proofs.fields.method_at.Tie as tie
+
+pub method-at-spec : {M : Type 1} → statement M
+method-at-spec =
+    tie.close
+    (tie.spec
+    (λ c. search for-parts)
+    (λ c. search for-parts)
+    (λ c. search for-parts)
+    (λ c. search for-parts))

@@ -1,0 +1,17 @@
+-- `later::fields::reason_at` meets its contract.
+-- Assumes nothing.
+use Rattle.later.proofs.FieldNeeds.{for-parts}
+use Rattle.later.proofs.fields.reason_at.Statement.{statement}
+use Rattle.later.proofs.fields.reason_at.Tie as tie
+
+pub reason-at-spec : {M : Type 1} → statement M
+reason-at-spec =
+    tie.close
+    (tie.spec
+    (λ c. search for-parts)
+    (λ c. search for-parts)
+    (λ c. search for-parts)
+    (λ c. search for-parts)
+    (λ c. search for-parts)
+    (λ c. search for-parts)
+    (λ c. search for-parts))

@@ -1,0 +1,15 @@
+-- `later::fields::vaccine_at` meets its contract.
+-- Assumes nothing.
+use Rattle.later.proofs.FieldNeeds.{for-parts}
+use Rattle.later.proofs.fields.vaccine_at.Statement.{statement}
+use Rattle.later.proofs.fields.vaccine_at.Tie as tie
+
+pub vaccine-at-spec : {M : Type 1} → statement M
+vaccine-at-spec =
+    tie.close
+    (tie.spec
+    (λ c. search for-parts)
+    (λ c. search for-parts)
+    (λ c. search for-parts)
+    (λ c. search for-parts)
+    (λ c. search for-parts))

@@ -1,0 +1,17 @@
+-- `later::records::method_rule` meets its contract.
+-- Assumes nothing.
+use Rattle.later.proofs.RecordNeeds.{for-site}
+use Rattle.later.proofs.records.method_rule.Statement.{statement}
+use Rattle.later.proofs.records.method_rule.Tie as tie
+
+pub method-rule-spec : {M : Type 1} → statement M
+method-rule-spec =
+    tie.close
+    (tie.spec
+    (λ c. search for-site)
+    (λ c. search for-site)
+    (λ c. search for-site)
+    (λ c. search for-site)
+    (λ c. search for-site)
+    (λ c. search for-site)
+    (λ c. search for-site))

@@ -1,0 +1,18 @@
+-- `later::records::set_rule` meets its contract.
+-- Assumes nothing.
+use Rattle.later.proofs.RecordNeeds.{for-set}
+use Rattle.later.proofs.records.set_rule.Statement.{statement}
+use Rattle.later.proofs.records.set_rule.Tie as tie
+
+pub set-rule-spec : {M : Type 1} → statement M
+set-rule-spec =
+    tie.close
+    (tie.spec
+    (λ c. search for-set)
+    (λ c. search for-set)
+    (λ c. search for-set)
+    (λ c. search for-set)
+    (λ c. search for-set)
+    (λ c. search for-set)
+    (λ c. search for-set)
+    (λ c. search for-set))

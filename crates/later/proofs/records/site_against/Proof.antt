@@ -1,0 +1,17 @@
+-- `later::records::site_against` meets its contract.
+-- Assumes nothing.
+use Rattle.later.proofs.RecordNeeds.{for-asked}
+use Rattle.later.proofs.records.site_against.Statement.{statement}
+use Rattle.later.proofs.records.site_against.Tie as tie
+
+pub site-against-spec : {M : Type 1} → statement M
+site-against-spec =
+    tie.close
+    (tie.spec
+    (λ c. search for-asked)
+    (λ c. search for-asked)
+    (λ c. search for-asked)
+    (λ c. search for-asked)
+    (λ c. search for-asked)
+    (λ c. search for-asked)
+    (λ c. search for-asked))

@@ -1,0 +1,119 @@
+// Codes of the book: whether one is known, and the rules 4, 5 and 11.
+use crate::Day;
+use book::Found;
+use book::Sections;
+use book::Standing;
+use lines::II;
+ghost use mathlib.Core.Path.{_≡_};
+ghost use mathlib.Core.Bool.{cond, false, not, _&&_, _||_};
+ghost use mathlib.Core.List.{[]};
+ghost use Rattle.house.specs.Text.{isEmpty};
+ghost use Rattle.lines.specs.Records.{recOf};
+ghost use Rattle.book.specs.Book.{codeText};
+ghost use Rattle.rules.specs.Forms.{text, isGiven};
+ghost use Rattle.forms.specs.Leaves.{lowest};
+ghost use Rattle.later.specs.Look.{knownBy, forceBy};
+ghost use Rattle.later.specs.Fields.{codeLater};
+
+// Whether the book has a code of a kind.
+fn is_known(book: &[u8], q: Sections, kind: u8, code: &[u8]) -> bool
+    ensures { λ r. ⌜ r ≡ knownBy (now (book .entry)) q kind (codeText kind (now (code .entry)) []) ⌝ }
+{
+    let f = book::find(book, q, kind, code, &code[..0]);
+    match f {
+        Found::At(_) => true,
+        Found::Absent => false,
+    }
+}
+
+// Rule 4 or 5 of a code that is given: not known, or out of force on a day that is sound.
+fn code_later(book: &[u8], q: Sections, kind: u8, code: &[u8], day: Day) -> u8
+    ensures { λ r. ⌜ r ≡ codeLater false (knownBy (now (book .entry)) q kind (codeText kind (now (code .entry)) [])) (day .sound && not (forceBy (now (book .entry)) q (day .number) kind (codeText kind (now (code .entry)) []))) ⌝ }
+{
+    let s = book::look_up(book, q, kind, code, &code[..0], day.number);
+    match s {
+        Standing::Unknown => 4,
+        Standing::InForce => 0,
+        Standing::OutOfForce => { if day.sound { 5 } else { 0 } }
+    }
+}
+
+// Whether a pair of codes is absent, or out of force on a day that is sound.
+fn pair_wrong(book: &[u8], q: Sections, kind: u8, a: &[u8], b: &[u8], day: Day) -> bool
+    ensures { λ r. ⌜ r ≡ not (knownBy (now (book .entry)) q kind (codeText kind (now (a .entry)) (now (b .entry)))) || (day .sound && not (forceBy (now (book .entry)) q (day .number) kind (codeText kind (now (a .entry)) (now (b .entry))))) ⌝ }
+{
+    let s = book::look_up(book, q, kind, a, b, day.number);
+    match s {
+        Standing::Unknown => true,
+        Standing::InForce => false,
+        Standing::OutOfForce => day.sound,
+    }
+}
+
+// The lowest of rules 1, 2, 4 and 5 at field f of a line, which holds a code of a kind of the book.
+pub fn code_rule(
+    kind: u8,
+    line: &[u8],
+    f: usize,
+    of: u8,
+    code: &[u8],
+    book: &[u8],
+    q: Sections,
+    day: Day,
+) -> u8
+    ensures { λ r. ⌜ r ≡ lowest kind (recOf (now (line .entry))) f (codeLater (isEmpty (text (recOf (now (line .entry))) f)) (knownBy (now (book .entry)) q of (codeText of (now (code .entry)) [])) (day .sound && not (forceBy (now (book .entry)) q (day .number) of (codeText of (now (code .entry)) [])))) ⌝ }
+{
+    let r = forms::basic_rule(kind, line, f);
+    if r != 0 {
+        return r;
+    }
+    if lines::field_of(line, f).len() == 0 {
+        return 0;
+    }
+    code_later(book, q, of, code, day)
+}
+
+// Whether field f of a line is given and its code is known.
+fn is_known_at(
+    kind: u8,
+    line: &[u8],
+    f: usize,
+    of: u8,
+    code: &[u8],
+    book: &[u8],
+    q: Sections,
+) -> bool
+    ensures { λ r. ⌜ r ≡ isGiven kind (recOf (now (line .entry))) f && knownBy (now (book .entry)) q of (codeText of (now (code .entry)) []) ⌝ }
+{
+    if forms::is_given(kind, line, f) {
+        is_known(book, q, of, code)
+    } else {
+        false
+    }
+}
+
+// Rule 11 at field f of a line: the pair of its code with the vaccine of its II, where both are known.
+pub(crate) fn pair_rule(
+    kind: u8,
+    line: &[u8],
+    f: usize,
+    of: u8,
+    code: &[u8],
+    pair: u8,
+    head: &[u8],
+    book: &[u8],
+    q: Sections,
+    day: Day,
+) -> u8
+    ensures { λ r. ⌜ r ≡ cond ((isGiven 4 (recOf (now (head .entry))) 8 && knownBy (now (book .entry)) q 1 (codeText 1 (text (recOf (now (head .entry))) 8) [])) && (isGiven kind (recOf (now (line .entry))) f && knownBy (now (book .entry)) q of (codeText of (now (code .entry)) [])) && (not (knownBy (now (book .entry)) q pair (codeText pair (text (recOf (now (head .entry))) 8) (now (code .entry)))) || (day .sound && not (forceBy (now (book .entry)) q (day .number) pair (codeText pair (text (recOf (now (head .entry))) 8) (now (code .entry))))))) 11 0 ⌝ }
+{
+    let vaccine = lines::field_of(head, 8);
+    if is_known_at(II, head, 8, 1, vaccine, book, q) {
+        if is_known_at(kind, line, f, of, code, book, q) {
+            if pair_wrong(book, q, pair, vaccine, code, day) {
+                return 11;
+            }
+        }
+    }
+    0
+}

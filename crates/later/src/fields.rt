@@ -1,0 +1,121 @@
+// The fields of an II and of an IE that have more than one rule: which are broken at each.
+use crate::Broken;
+use crate::Day;
+use crate::Facts;
+use crate::codes::code_rule;
+use crate::codes::pair_rule;
+use crate::records::again_rule;
+use crate::records::lack_rule;
+use crate::records::ledger_rule;
+use crate::records::method_against;
+use crate::records::method_rule;
+use crate::records::set_rule;
+use crate::records::site_against;
+use crate::records::site_rule;
+use book::Sections;
+use lines::IE;
+use lines::II;
+ghost use mathlib.Core.Path.{_≡_};
+ghost use mathlib.Core.Bool.{cond};
+ghost use Rattle.lines.specs.Records.{recOf};
+ghost use Rattle.later.specs.Fields.{typeAt, vaccineAt, siteAt, methodAt, reasonAt, dosageAt, dosageTypeAt, antigenAt};
+
+// II 4: rules 1, 2 and 16 to 18.
+pub fn type_at(line: &[u8], facts: Facts) -> Broken
+    ensures { λ r. ⌜ r ≡ typeAt (now (line .entry)) facts ⌝ }
+{
+    let a = forms::basic_rule(II, line, 4);
+    let b = ledger_rule(facts.inb, line, facts.live);
+    Broken { a, b, c: 0 }
+}
+
+// Rule 15 at II 8.
+fn repeat_rule(repeated: bool) -> u8
+    ensures { λ r. ⌜ r ≡ cond repeated 15 0 ⌝ }
+{
+    if repeated { 15 } else { 0 }
+}
+
+// II 8: rules 1, 2, 4, 5, 13 and 15.
+pub fn vaccine_at(
+    line: &[u8],
+    own: &[u8],
+    first: &[u8],
+    book: &[u8],
+    q: Sections,
+    day: Day,
+    facts: Facts,
+) -> Broken
+    ensures { λ r. ⌜ r ≡ vaccineAt (now (line .entry)) (now (own .entry)) (now (first .entry)) (now (book .entry)) q day facts ⌝ }
+{
+    let a = code_rule(II, line, 8, 1, lines::field_of(line, 8), book, q, day);
+    let b = set_rule(facts.joined, own, first);
+    let c = repeat_rule(facts.repeated);
+    Broken { a, b, c }
+}
+
+// II 9: rules 1, 2, 4, 9 and 10.
+pub fn site_at(line: &[u8]) -> Broken
+    ensures { λ r. ⌜ r ≡ siteAt (recOf (now (line .entry))) ⌝ }
+{
+    let a = site_rule(line);
+    let b = site_against(line);
+    let c = lack_rule(line, 9, 10);
+    Broken { a, b, c }
+}
+
+// II 10: rules 1, 2, 4, 9 and 10.
+pub fn method_at(line: &[u8]) -> Broken
+    ensures { λ r. ⌜ r ≡ methodAt (recOf (now (line .entry))) ⌝ }
+{
+    let a = method_rule(line);
+    let b = method_against(line);
+    let c = lack_rule(line, 10, 9);
+    Broken { a, b, c }
+}
+
+// II 11: rules 1, 2, 4, 5 and 11.
+pub fn reason_at(line: &[u8], book: &[u8], q: Sections, day: Day) -> Broken
+    ensures { λ r. ⌜ r ≡ reasonAt (now (line .entry)) (now (book .entry)) q day ⌝ }
+{
+    let read = texts::reason_read(lines::field_of(line, 11));
+    let a = code_rule(II, line, 11, 3, &read, book, q, day);
+    let b = pair_rule(II, line, 11, 3, &read, 7, line, book, q, day);
+    Broken { a, b, c: 0 }
+}
+
+// II 12: rules 1, 2 and 10.
+pub fn dosage_at(line: &[u8]) -> Broken
+    ensures { λ r. ⌜ r ≡ dosageAt (recOf (now (line .entry))) ⌝ }
+{
+    let a = forms::basic_rule(II, line, 12);
+    let b = lack_rule(line, 12, 13);
+    Broken { a, b, c: 0 }
+}
+
+// II 13: rules 1, 2, 4, 5 and 10.
+pub fn dosage_type_at(line: &[u8], book: &[u8], q: Sections, day: Day) -> Broken
+    ensures { λ r. ⌜ r ≡ dosageTypeAt (now (line .entry)) (now (book .entry)) q day ⌝ }
+{
+    let a = code_rule(II, line, 13, 5, lines::field_of(line, 13), book, q, day);
+    let b = lack_rule(line, 13, 12);
+    Broken { a, b, c: 0 }
+}
+
+// IE 4: rules 1, 2, 4, 5, 11 and 12.
+pub fn antigen_at(
+    line: &[u8],
+    head: &[u8],
+    since: &[u8],
+    book: &[u8],
+    q: Sections,
+    day: Day,
+) -> Broken
+    ensures { λ r. ⌜ r ≡ antigenAt (now (line .entry)) (now (head .entry)) (now (since .entry)) (now (book .entry)) q day ⌝ }
+{
+    let t = lines::field_of(line, 4);
+    let a = code_rule(IE, line, 4, 2, t, book, q, day);
+    let b = pair_rule(IE, line, 4, 2, t, 8, head, book, q, day);
+    let c = again_rule(line, since);
+    Broken { a, b, c }
+}
