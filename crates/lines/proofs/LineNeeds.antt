@@ -50,11 +50,16 @@ module _ (s : Text) (i : ℕ) where
 pub ruleset for-ending = (needs, ending-past, ending-lf, ending-other, ending-last, ending-crlf, ending-cr)
 
 -- text_end: the end x, from a position i that the loop has come to
-text-stop : (s : Text) → (endingOf s ≡ 0 → ⊥) → textLen s ≡ 0
+pub text-stop : (s : Text) → (endingOf s ≡ 0 → ⊥) → textLen s ≡ 0
 unfolding textLen lineOf linesOf byEnding endingOf lfNext
 text-stop = by-ending (λ (s : Text). (endingOf s ≡ 0 → ⊥) → textLen s ≡ 0) (λ n. refl) (λ b s e h n. absurd (n e)) (λ s h n. refl) (λ s h n. refl)
 
-text-nil : textLen [] ≡ 0
+-- no ending starts with a byte past CR
+pub ending-plain : (b : ℕ) (s : Text) → 14 ≤ b → endingOf (b ∷ s) ≡ 0
+unfolding endingOf
+ending-plain b s h = rw (ne-eqb b LF (λ e. omega arith), ne-eqb b CR (λ e. omega arith))
+
+pub text-nil : textLen [] ≡ 0
 unfolding textLen lineOf linesOf
 text-nil = refl
 
@@ -71,7 +76,10 @@ module _ (s : Text) (i x : ℕ) (inv : x ≡ i + textLen (drop i s)) where
         let g : endingOf (getD s i 0 ∷ drop (i + 1) s) ≡ 0 = rw (← drop-here s i h) (sym p ∙ z) in
         rw (inv, drop-here s i h, text-more (getD s i 0) (drop (i + 1) s) g) (omega arith)
 
-pub ruleset for-text-end = (needs, end-past, end-stop, end-on)
+  pub end-plain : i < length s → 14 ≤ getD s i 0 → x ≡ i + 1 + textLen (drop (i + 1) s)
+  end-plain h l = rw (inv, drop-here s i h, text-more (getD s i 0) (drop (i + 1) s) (ending-plain (getD s i 0) (drop (i + 1) s) l)) (omega arith)
+
+pub ruleset for-text-end = (needs, end-past, end-stop, end-on, end-plain)
 
 -- line_at: the text's end t, and the ending of e bytes there
 pub line-found : (s : Text) (at t e : ℕ) → t ≡ at + textLen (drop at s) → e ≡ endingOf (drop t s) → LineIs s at (record { end = t; next = t + e; lf = not (eqb e 0) })

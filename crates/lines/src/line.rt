@@ -36,9 +36,11 @@ fn text_end(file: &[u8], at: usize) -> usize
 {
     let mut i = at;
     while i < file.len() {
-        let n = ending(file, i);
-        if n != 0 {
-            return i;
+        if file[i] < 14 {
+            let n = ending(file, i);
+            if n != 0 {
+                return i;
+            }
         }
         i += 1;
     }
