@@ -16,7 +16,7 @@ use Rattle.house.specs.Text.{Text}
 use Rattle.house.proofs.Suffix.{drop-here, drop-past}
 use Rattle.lines.specs.declared.LineAt.{LineAt}
 use Rattle.lines.specs.Lines.{LF, CR, lfNext, endingOf, byEnding, linesOf, lineOf, textLen, lineLen, lineAt, LineIs, textAt, linesLen}
-use Rattle.lines.proofs.LineLaws.{by-ending, text-more, ended-is, line-is, at-next, at-text, left-falls, text-after}
+use Rattle.lines.proofs.LineLaws.{ending-plain, text-more, text-stop, text-nil, ended-is, line-is, at-next, at-text, left-falls, text-after}
 
 -- ending
 module _ (s : Text) (i : ℕ) where
@@ -50,19 +50,6 @@ module _ (s : Text) (i : ℕ) where
 pub ruleset for-ending = (needs, ending-past, ending-lf, ending-other, ending-last, ending-crlf, ending-cr)
 
 -- text_end: the end x, from a position i that the loop has come to
-pub text-stop : (s : Text) → (endingOf s ≡ 0 → ⊥) → textLen s ≡ 0
-unfolding textLen lineOf linesOf byEnding endingOf lfNext
-text-stop = by-ending (λ (s : Text). (endingOf s ≡ 0 → ⊥) → textLen s ≡ 0) (λ n. refl) (λ b s e h n. absurd (n e)) (λ s h n. refl) (λ s h n. refl)
-
--- no ending starts with a byte past CR
-pub ending-plain : (b : ℕ) (s : Text) → 14 ≤ b → endingOf (b ∷ s) ≡ 0
-unfolding endingOf
-ending-plain b s h = rw (ne-eqb b LF (λ e. omega arith), ne-eqb b CR (λ e. omega arith))
-
-pub text-nil : textLen [] ≡ 0
-unfolding textLen lineOf linesOf
-text-nil = refl
-
 module _ (s : Text) (i x : ℕ) (inv : x ≡ i + textLen (drop i s)) where
   pub end-past : length s ≤ i → i ≡ x
   end-past h = rw (inv, drop-past s i h, text-nil, add-zero)
