@@ -182,6 +182,12 @@ module _ (s : Text) (at : ℕ) (q : LineAt) (e : LineIs s at q) where
 
   -- the next line starts behind it, and the lines from its start on are it and those from there on
   module _ (h : at < length s) where
+    pub at-from : at ≤ q .end
+    at-from = e .from
+
+    pub at-in : q .end ≤ length s
+    at-in = omega (arith, e .on, e .within)
+
     pub at-past : at < q .next
     at-past = omega (arith, at-next, line-pos (drop at s) (omega (arith, length-drop at s)))
 
