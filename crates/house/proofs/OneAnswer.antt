@@ -23,6 +23,9 @@ same-one a b x y p q = cc
 pub compare-padded-one : (code t : Text) (x y : Order) → x ≡ orderOf code (pad (length code) t) → y ≡ orderOf code (pad (length code) t) → x ≡ y
 compare-padded-one code t x y p q = cc
 
+pub compare-pads-one : (w : ℕ) (a b : Text) (x y : Order) → x ≡ orderOf (pad w a) (pad w b) → y ≡ orderOf (pad w a) (pad w b) → x ≡ y
+compare-pads-one w a b x y p q = cc
+
 pub is-padded-one : (t : Text) (x y : Bool) → x ≡ isPadded t → y ≡ isPadded t → x ≡ y
 is-padded-one t x y p q = cc
 

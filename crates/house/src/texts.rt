@@ -87,6 +87,25 @@ pub fn compare_padded(code: &[u8], text: &[u8]) -> Order
     Order::Same
 }
 
+// How two texts stand to each other, both padded to a width, without writing the padded texts.
+pub fn compare_pads(w: usize, a: &[u8], b: &[u8]) -> Order
+    ensures { λ r. ⌜ r ≡ orderOf (pad w (now (a .entry))) (pad w (now (b .entry))) ⌝ }
+{
+    let mut i = 0;
+    while i < w {
+        let x = padded_byte(a, i);
+        let y = padded_byte(b, i);
+        if x < y {
+            return Order::Less;
+        }
+        if y < x {
+            return Order::More;
+        }
+        i += 1;
+    }
+    Order::Same
+}
+
 // How many bytes in 33..126 a text starts with.
 fn graphic_len(text: &[u8]) -> usize
     ensures { λ r. ⌜ r ≡ graphicLen (now (text .entry)) ⌝ }

@@ -13,8 +13,7 @@ use Rattle.house.specs.Text.{Text, those, same}
 use Rattle.house.proofs.Suffix.{drop-here, drop-past}
 use Rattle.lines.specs.declared.LineAt.{LineAt}
 use Rattle.lines.specs.Lines.{lineOf, fieldOf, LineIs}
-use Rattle.lines.proofs.LineLaws.{lines-past, at-text}
-use Rattle.events.proofs.EventLaws.{at-from, at-in}
+use Rattle.lines.proofs.LineLaws.{lines-past, at-text, at-from, at-in}
 use Rattle.index.specs.Firsts.{over, isTyped, partOf}
 
 -- line_text

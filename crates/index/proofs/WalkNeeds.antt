@@ -16,9 +16,8 @@ use Rattle.house.proofs.Facts.{of-true}
 use Rattle.lines.specs.declared.LineAt.{LineAt}
 use Rattle.lines.specs.Lines.{lineOf, LineIs, linesLen}
 use Rattle.lines.specs.Records.{Rec, IE, recordOf, isKind, recOf, recs}
-use Rattle.lines.proofs.LineLaws.{lines-past, at-next, at-text}
+use Rattle.lines.proofs.LineLaws.{lines-past, at-next, at-text, at-from, at-in}
 use Rattle.events.specs.Sorted.{canSort, sortedAt}
-use Rattle.events.proofs.EventLaws.{at-from, at-in}
 use Rattle.forms.proofs.FieldLaws.{kind-is}
 use Rattle.rules.specs.Places.{noRec}
 use Rattle.rules.specs.Blocks.{isInBlock, joins, nearestOf, blockIn, openAfter, begins}

@@ -40,12 +40,12 @@ module _ (t : Text) (i n x : ℕ) (inv : x ≡ n + length (fieldsOf (drop i t)))
 pub ruleset for-count-fields = (needs, count-holds, count-pipe, count-on, count-end)
 
 -- field_start: the start x, from a position i with f fields left; a turn leaves g
-start-zero : (t : Text) → fieldsLen 0 t ≡ 0
+pub start-zero : (t : Text) → fieldsLen 0 t ≡ 0
 unfolding fieldsLen
 start-zero [] = refl
 start-zero (b ∷ t) = refl
 
-start-cons : (f b : ℕ) (t : Text) → (f ≡ 0 → ⊥) → fieldsLen f (b ∷ t) ≡ suc (cond (eqb b pipe) (fieldsLen (f - 1) t) (fieldsLen f t))
+pub start-cons : (f b : ℕ) (t : Text) → (f ≡ 0 → ⊥) → fieldsLen f (b ∷ t) ≡ suc (cond (eqb b pipe) (fieldsLen (f - 1) t) (fieldsLen f t))
 unfolding fieldsLen
 start-cons zero b t n = absurd (n refl)
 start-cons (suc f) b t n = rw sub-one
@@ -91,7 +91,7 @@ pub field-zero : (t : Text) (f : ℕ) → f ≡ 0 → [] ≡ fieldOf t f
 unfolding fieldOf
 field-zero t f e = rw e
 
-field-pred : (t : Text) (f : ℕ) → (f ≡ 0 → ⊥) → fieldOf t f ≡ getD (fieldsOf t) (f - 1) []
+pub field-pred : (t : Text) (f : ℕ) → (f ≡ 0 → ⊥) → fieldOf t f ≡ getD (fieldsOf t) (f - 1) []
 unfolding fieldOf
 field-pred t zero n = absurd (n refl)
 field-pred t (suc f) n = rw sub-one

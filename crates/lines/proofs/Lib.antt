@@ -7,6 +7,7 @@ pub mod ShapeLaws
 -- What the functions' own needs ask
 mod LineNeeds
 mod FieldNeeds
+mod AtNeeds
 mod KindNeeds
 mod FaultNeeds
 -- No second answer

@@ -7,7 +7,7 @@ use Prim.Native.Nat.{ℕ, zero, suc, _+_, _-_, _≤_, _<_}
 use native.Mathlib.Nat.{suc-add, add-sub-cancel-left}
 use native.Mathlib.Numerals.{sub-one}
 use native.Mathlib.Omega.{arith}
-use borrow.Author.Tests.{eqb-true}
+use borrow.Author.Tests.{eqb-true, eqb-false, ne-eqb}
 use lib.Dec.{eqb}
 use lib.ListN.{length, getD, take, drop, length-drop}
 use lib.Seq.{drop-drop, drop-nil}
@@ -56,6 +56,38 @@ module _ (b : ℕ) (s : Text) (e : endingOf (b ∷ s) ≡ 0) where
   pub len-more : lineLen (b ∷ s) ≡ suc (lineLen s)
   unfolding lineLen
   len-more = rw (text-more, suc-add)
+
+-- no ending starts with a byte past CR
+pub ending-plain : (b : ℕ) (s : Text) → 14 ≤ b → endingOf (b ∷ s) ≡ 0
+unfolding endingOf
+ending-plain b s h = rw (ne-eqb b LF (λ e. omega arith), ne-eqb b CR (λ e. omega arith))
+
+-- it has no text where an ending stands, and none where nothing stands
+pub line-stop : (s : Text) → (endingOf s ≡ 0 → ⊥) → lineOf s .text ≡ []
+unfolding lineOf linesOf byEnding endingOf lfNext
+line-stop = by-ending (λ (s : Text). (endingOf s ≡ 0 → ⊥) → lineOf s .text ≡ []) (λ n. refl) (λ b s e h n. absurd (n e)) (λ s h n. refl) (λ s h n. refl)
+
+pub text-stop : (s : Text) → (endingOf s ≡ 0 → ⊥) → textLen s ≡ 0
+unfolding textLen
+text-stop s n = rw (line-stop s n)
+
+pub line-nil : lineOf [] .text ≡ []
+unfolding lineOf linesOf
+line-nil = refl
+
+pub text-nil : textLen [] ≡ 0
+unfolding textLen
+text-nil = rw line-nil
+
+-- its text from a place in it on is that of the line which starts there
+pub text-from : (n : ℕ) (s : Text) → n ≤ textLen s → lineOf (drop n s) .text ≡ drop n (lineOf s .text)
+text-from zero s h = refl
+text-from (suc n) [] h = absurd (omega (arith, text-nil))
+text-from (suc n) (b ∷ s) h = go (eqb (endingOf (b ∷ s)) 0) refl (text-from n s)
+  where
+    go : (t : Bool) → eqb (endingOf (b ∷ s)) 0 ≡ t → (n ≤ textLen s → lineOf (drop n s) .text ≡ drop n (lineOf s .text)) → lineOf (drop n s) .text ≡ drop (suc n) (lineOf (b ∷ s) .text)
+    go true e k = let z : endingOf (b ∷ s) ≡ 0 = eqb-true _ _ e in rw (line-more b s z) (k (omega (arith, text-more b s z)))
+    go false e k = absurd (omega (arith, text-stop (b ∷ s) (eqb-false _ _ e)))
 
 -- its text is a part of the file, and it has an LF exactly if an ending stands there
 pub text-is : (s : Text) → lineOf s .text ≡ take (textLen s) s
@@ -150,6 +182,12 @@ module _ (s : Text) (at : ℕ) (q : LineAt) (e : LineIs s at q) where
 
   -- the next line starts behind it, and the lines from its start on are it and those from there on
   module _ (h : at < length s) where
+    pub at-from : at ≤ q .end
+    at-from = e .from
+
+    pub at-in : q .end ≤ length s
+    at-in = omega (arith, e .on, e .within)
+
     pub at-past : at < q .next
     at-past = omega (arith, at-next, line-pos (drop at s) (omega (arith, length-drop at s)))
 

@@ -16,7 +16,7 @@ use Rattle.house.specs.Text.{Text}
 use Rattle.house.proofs.Suffix.{drop-here, drop-past}
 use Rattle.lines.specs.declared.LineAt.{LineAt}
 use Rattle.lines.specs.Lines.{LF, CR, lfNext, endingOf, byEnding, linesOf, lineOf, textLen, lineLen, lineAt, LineIs, textAt, linesLen}
-use Rattle.lines.proofs.LineLaws.{by-ending, text-more, ended-is, line-is, at-next, at-text, left-falls, text-after}
+use Rattle.lines.proofs.LineLaws.{ending-plain, text-more, text-stop, text-nil, ended-is, line-is, at-next, at-text, left-falls, text-after}
 
 -- ending
 module _ (s : Text) (i : ℕ) where
@@ -50,14 +50,6 @@ module _ (s : Text) (i : ℕ) where
 pub ruleset for-ending = (needs, ending-past, ending-lf, ending-other, ending-last, ending-crlf, ending-cr)
 
 -- text_end: the end x, from a position i that the loop has come to
-text-stop : (s : Text) → (endingOf s ≡ 0 → ⊥) → textLen s ≡ 0
-unfolding textLen lineOf linesOf byEnding endingOf lfNext
-text-stop = by-ending (λ (s : Text). (endingOf s ≡ 0 → ⊥) → textLen s ≡ 0) (λ n. refl) (λ b s e h n. absurd (n e)) (λ s h n. refl) (λ s h n. refl)
-
-text-nil : textLen [] ≡ 0
-unfolding textLen lineOf linesOf
-text-nil = refl
-
 module _ (s : Text) (i x : ℕ) (inv : x ≡ i + textLen (drop i s)) where
   pub end-past : length s ≤ i → i ≡ x
   end-past h = rw (inv, drop-past s i h, text-nil, add-zero)
@@ -71,7 +63,10 @@ module _ (s : Text) (i x : ℕ) (inv : x ≡ i + textLen (drop i s)) where
         let g : endingOf (getD s i 0 ∷ drop (i + 1) s) ≡ 0 = rw (← drop-here s i h) (sym p ∙ z) in
         rw (inv, drop-here s i h, text-more (getD s i 0) (drop (i + 1) s) g) (omega arith)
 
-pub ruleset for-text-end = (needs, end-past, end-stop, end-on)
+  pub end-plain : i < length s → 14 ≤ getD s i 0 → x ≡ i + 1 + textLen (drop (i + 1) s)
+  end-plain h l = rw (inv, drop-here s i h, text-more (getD s i 0) (drop (i + 1) s) (ending-plain (getD s i 0) (drop (i + 1) s) l)) (omega arith)
+
+pub ruleset for-text-end = (needs, end-past, end-stop, end-on, end-plain)
 
 -- line_at: the text's end t, and the ending of e bytes there
 pub line-found : (s : Text) (at t e : ℕ) → t ≡ at + textLen (drop at s) → e ≡ endingOf (drop t s) → LineIs s at (record { end = t; next = t + e; lf = not (eqb e 0) })

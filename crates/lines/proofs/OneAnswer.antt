@@ -3,11 +3,11 @@
 use mathlib.Core.Path.{_≡_, sym, _∙_}
 use mathlib.Core.Bool.{Bool}
 use Prim.Native.Nat.{ℕ}
-use lib.ListN.{length}
+use lib.ListN.{length, drop}
 use Rattle.house.specs.Text.{Text}
 use Rattle.lines.specs.declared.LineAt.{LineAt}
 use Rattle.lines.specs.declared.Shape.{Shape}
-use Rattle.lines.specs.Lines.{fieldsOf, fieldOf, fieldText, fieldThere, fieldPosition, LineIs}
+use Rattle.lines.specs.Lines.{lineOf, fieldsOf, fieldOf, fieldText, fieldThere, fieldPosition, LineIs}
 use Rattle.lines.specs.Records.{recordOf}
 use Rattle.lines.specs.Shape.{shapeOf}
 
@@ -28,6 +28,9 @@ count-fields t r q = one
 
 field-of : (t : Text) (f : ℕ) (r q : Text) → r ≡ fieldOf t f → q ≡ fieldOf t f → r ≡ q
 field-of t f r q = one
+
+field-at : (s : Text) (at f : ℕ) (r q : Text) → r ≡ fieldOf (lineOf (drop at s) .text) f → q ≡ fieldOf (lineOf (drop at s) .text) f → r ≡ q
+field-at s at f r q = one
 
 field : (s : Text) (n f : ℕ) (r q : Text) → r ≡ fieldText s n f → q ≡ fieldText s n f → r ≡ q
 field s n f r q = one

@@ -1,10 +1,11 @@
 // The fields of a line: texts that a pipe ends.
+use crate::line::ending;
 use crate::line::line_start;
 use crate::line::line_text;
 ghost use mathlib.Core.Path.{_≡_};
 ghost use Prim.Native.Nat.{_+_};
 ghost use lib.ListN.{drop, length};
-ghost use Rattle.lines.specs.Lines.{fieldsOf, fieldOf, fieldText, fieldThere, fieldsLen, fieldPosition};
+ghost use Rattle.lines.specs.Lines.{lineOf, fieldsOf, fieldOf, fieldText, fieldThere, fieldsLen, fieldPosition};
 ghost use Rattle.lines.specs.Inside.{pipeLen};
 
 // How many fields a line's text has.
@@ -67,6 +68,72 @@ pub fn field_of(text: &[u8], f: usize) -> &[u8]
         return &text[start..end];
     }
     &text[..0]
+}
+
+// Where the field after f fields of the line that starts at a position starts, or the end of the line's text.
+fn skip(file: &[u8], at: usize, f: usize) -> usize
+    ensures { λ r. ⌜ r ≡ at + fieldsLen f (lineOf (drop at (now (file .entry))) .text) ⌝ }
+{
+    if f == 0 {
+        return at;
+    }
+    let mut i = at;
+    let mut more = f;
+    while i < file.len() {
+        let b = file[i];
+        if b == b'|' {
+            i += 1;
+            if more == 1 {
+                return i;
+            }
+            more -= 1;
+            continue;
+        }
+        if b < 14 {
+            let e = ending(file, i);
+            if e != 0 {
+                return i;
+            }
+        }
+        i += 1;
+    }
+    i
+}
+
+// Where the field that starts at a position ends; that position where no pipe ends it within its line.
+fn field_end(file: &[u8], at: usize) -> usize
+    ensures { λ r. ⌜ r ≡ at + length (fieldOf (lineOf (drop at (now (file .entry))) .text) 1) ⌝ }
+{
+    let mut i = at;
+    while i < file.len() {
+        let b = file[i];
+        if b == b'|' {
+            return i;
+        }
+        if b < 14 {
+            let e = ending(file, i);
+            if e != 0 {
+                return at;
+            }
+        }
+        i += 1;
+    }
+    at
+}
+
+// Field f of the line that starts at a position, counted from 1; empty where it is not there.
+pub fn field_at(file: &[u8], at: usize, f: usize) -> &[u8]
+    ensures { λ r. ⌜ now r ≡ fieldOf (lineOf (drop at (now (file .entry))) .text) f ⌝ }
+{
+    if f == 0 {
+        return &file[..0];
+    }
+    let start = skip(file, at, f - 1);
+    let end = field_end(file, start);
+    if start < end {
+        return &file[start..end];
+    }
+    &file[..0]
 }
 
 // The text of field f of a line, both counted from 1; empty where it is not there.

@@ -7,6 +7,7 @@ mod line;
 pub use faults::shape_of;
 pub use fields::count_fields;
 pub use fields::field;
+pub use fields::field_at;
 pub use fields::field_of;
 pub use fields::field_position;
 pub use fields::has_field;

@@ -6,7 +6,7 @@ ghost use lib.ListN.{drop, length};
 ghost use Rattle.lines.specs.Lines.{endingOf, textLen, LineIs, textAt, linesLen};
 
 // How many bytes the line ending at a position has, 0 for none.
-fn ending(file: &[u8], at: usize) -> usize
+pub(crate) fn ending(file: &[u8], at: usize) -> usize
     ensures { λ r. ⌜ r ≡ endingOf (drop at (now (file .entry))) ⌝ }
     ensures { λ r. ⌜ r ≤ length (now (file .entry)) - at ⌝ }
 {
@@ -36,9 +36,11 @@ fn text_end(file: &[u8], at: usize) -> usize
 {
     let mut i = at;
     while i < file.len() {
-        let n = ending(file, i);
-        if n != 0 {
-            return i;
+        if file[i] < 14 {
+            let n = ending(file, i);
+            if n != 0 {
+                return i;
+            }
         }
         i += 1;
     }

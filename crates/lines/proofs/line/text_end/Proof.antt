@@ -5,6 +5,7 @@ use Prim.Native.Nat.{_-_, _+_}
 use mathlib.Core.Path.{_≡_}
 use lib.ListN.{length, drop}
 use Rattle.lines.specs.Lines.{textLen}
+use mathlib.Core.Logic.{⊎-elim}
 use Rattle.lines.proofs.line.text_end.Statement.{statement}
 use Rattle.lines.proofs.line.text_end.Tie as tie
 
@@ -26,4 +27,5 @@ text-end-spec =
     (λ c. search for-text-end)
     (λ c. search for-text-end)
     (λ c. search for-text-end)
+    (λ c. ⊎-elim (λ w. search for-text-end) (λ w. search for-text-end) (c .if1 .came))
     (λ c. search for-text-end))
