@@ -1,17 +1,17 @@
 -- The fields of a line's text: the first field, and the fields after it.
 -- Assumes nothing.
-use mathlib.Core.Path.{_≡_, refl, sym, _∙_}
+use mathlib.Core.Path.{_≡_, refl, sym, ap, _∙_}
 use mathlib.Core.Bool.{Bool, true, false, cond}
 use mathlib.Core.List.{List, [], _∷_}
-use Prim.Native.Nat.{ℕ, zero, suc, _≤_, _<_}
+use Prim.Native.Nat.{ℕ, zero, suc, _+_, _-_, _≤_, _<_}
 use native.Mathlib.Nat.{add-zero}
 use native.Mathlib.Omega.{arith}
-use lib.Dec.{eqb}
-use lib.ListN.{length, getD, take, drop}
-use lib.Seq.{drop-nil, getD-drop}
+use borrow.Author.Tests.{ltb-true, ltb-false}
+use lib.Dec.{eqb, ltb}
+use lib.ListN.{length, getD, take, drop, length-drop}
+use lib.Seq.{drop-drop, drop-nil, getD-drop}
 use Rattle.house.specs.Text.{Text}
-use Rattle.lines.specs.Lines.{pipe, lengthen, fieldsOf, fieldsLen}
-use Rattle.lines.specs.Inside.{pipeLen}
+use Rattle.lines.specs.Lines.{pipe, lengthen, fieldsOf, fieldOf, fieldsLen, pipeLen}
 
 -- a byte before the fields adds none and moves none but the first
 pub lengthen-length : (b : ℕ) (fs : List Text) → length (lengthen b fs) ≡ length fs
@@ -79,3 +79,29 @@ fields-few (b ∷ t) = go (eqb b pipe) (fields-few t)
 
 pub field-first : (k : ℕ) (t : Text) → getD (fieldsOf t) k [] ≡ getD (fieldsOf (drop (fieldsLen k t) t)) 0 []
 field-first k t = rw (fields-after, getD-drop, add-zero)
+
+-- The fields one after the other: from where the field after f fields starts, the first pipe ends it, and the next one starts behind that pipe
+module _ (t : Text) (at f : ℕ) (e : fieldsOf (drop at t) ≡ drop f (fieldsOf t)) (h : f < length (fieldsOf t)) where
+  next-pipe : pipeLen (drop at t) < length (drop at t)
+  next-pipe = go (ltb (pipeLen (drop at t)) (length (drop at t))) refl
+    where
+      go : (v : Bool) → ltb (pipeLen (drop at t)) (length (drop at t)) ≡ v → pipeLen (drop at t) < length (drop at t)
+      go true z = ltb-true _ _ z
+      go false z =
+          let n : length (drop f (fieldsOf t)) ≡ 0 = ap length (sym e ∙ fields-none (drop at t) (ltb-false _ _ z)) in
+          absurd (omega (arith, length-drop f (fieldsOf t)))
+
+  next-first : take (pipeLen (drop at t)) (drop at t) ∷ fieldsOf (drop (suc (pipeLen (drop at t))) (drop at t)) ≡ drop f (fieldsOf t)
+  next-first = sym (fields-first (drop at t) next-pipe) ∙ e
+
+  pub next-inside : at + pipeLen (drop at t) < length t
+  next-inside = omega (arith, next-pipe, length-drop at t)
+
+  pub next-text : take (pipeLen (drop at t)) (drop at t) ≡ fieldOf t (suc f)
+  unfolding fieldOf
+  next-text = ap (λ (fs : List Text). getD fs 0 []) next-first ∙ rw (getD-drop, add-zero)
+
+  pub next-fields : fieldsOf (drop (at + pipeLen (drop at t) + 1) t) ≡ drop (suc f) (fieldsOf t)
+  next-fields =
+      let k : at + pipeLen (drop at t) + 1 ≡ at + suc (pipeLen (drop at t)) = omega arith in
+      rw (k, ← drop-drop) (ap (drop 1) next-first ∙ rw (drop-drop) (ap (λ (n : ℕ). drop n (fieldsOf t)) (omega arith)))

@@ -14,8 +14,7 @@ use lib.ListN.{length, getD, take, drop, length-drop}
 use Rattle.house.specs.Text.{Text}
 use Rattle.house.proofs.Small.{clash}
 use Rattle.house.proofs.Suffix.{drop-here, drop-past}
-use Rattle.lines.specs.Lines.{pipe, textLen, fieldsOf, fieldOf, textAt, fieldText, fieldThere, linesLen, fieldsLen, fieldPosition}
-use Rattle.lines.specs.Inside.{pipeLen}
+use Rattle.lines.specs.Lines.{pipe, textLen, fieldsOf, fieldOf, textAt, fieldText, fieldThere, linesLen, fieldsLen, fieldPosition, pipeLen}
 use Rattle.lines.proofs.LineLaws.{text-le, text-after}
 use Rattle.lines.proofs.FieldLaws.{lengthen-length, fields-first, fields-none, fields-le, field-first}
 

@@ -5,8 +5,7 @@ use crate::line::line_text;
 ghost use mathlib.Core.Path.{_≡_};
 ghost use Prim.Native.Nat.{_+_};
 ghost use lib.ListN.{drop, length};
-ghost use Rattle.lines.specs.Lines.{lineOf, fieldsOf, fieldOf, fieldText, fieldThere, fieldsLen, fieldPosition};
-ghost use Rattle.lines.specs.Inside.{pipeLen};
+ghost use Rattle.lines.specs.Lines.{lineOf, fieldsOf, fieldOf, fieldText, fieldThere, fieldsLen, fieldPosition, pipeLen};
 
 // How many fields a line's text has.
 pub fn count_fields(text: &[u8]) -> usize
@@ -42,7 +41,7 @@ fn field_start(text: &[u8], f: usize) -> usize
 }
 
 // Where the first pipe from a position on stands, or the text's end.
-fn pipe_from(text: &[u8], at: usize) -> usize
+pub fn pipe_from(text: &[u8], at: usize) -> usize
     ensures { λ r. ⌜ r ≡ at + pipeLen (drop at (now (text .entry))) ⌝ }
 {
     let mut i = at;

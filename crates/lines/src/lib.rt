@@ -11,6 +11,7 @@ pub use fields::field_at;
 pub use fields::field_of;
 pub use fields::field_position;
 pub use fields::has_field;
+pub use fields::pipe_from;
 pub use kinds::IA;
 pub use kinds::IE;
 pub use kinds::IF;

@@ -1,10 +1,10 @@
 -- `lines::fields::pipe_from` meets its contract.
 -- Assumes nothing.
+use Rattle.lines.specs.Lines.{pipeLen}
 use Rattle.lines.proofs.FieldNeeds.{for-pipe-from}
 use Prim.Native.Nat.{_-_, _+_}
 use mathlib.Core.Path.{_≡_}
 use lib.ListN.{length, drop}
-use Rattle.lines.specs.Inside.{pipeLen}
 use Rattle.lines.proofs.fields.pipe_from.Statement.{statement}
 use Rattle.lines.proofs.fields.pipe_from.Tie as tie
 
