@@ -6,12 +6,14 @@ use Prim.Native.Nat.{ℕ}
 use borrow.Author.Needs.{needs}
 use borrow.Author.Tests.{eq-eqb, ne-eqb}
 use Rattle.house.specs.Text.{Text, same}
+use Rattle.house.specs.Dates.{isDate}
 use Rattle.lines.specs.Lines.{fieldOf}
 use Rattle.lines.specs.Records.{Rec, recordOf, recOf}
-use Rattle.rules.specs.Forms.{text, isSound}
+use Rattle.rules.specs.Forms.{text, isUli, isType, isCode}
 use Rattle.rules.specs.Blocks.{isInBlock, sameEvent, joins}
 use Rattle.forms.specs.Leaves.{datedCode}
 use Rattle.forms.proofs.FieldLaws.{text-is, kind-is}
+use Rattle.forms.proofs.SoundLaws.{ii-3, ii-4, ii-6, ii-8}
 
 pub field-same : (a b t u : Text) (f : ℕ) (x : Bool) → t ≡ fieldOf a f → u ≡ fieldOf b f → x ≡ same t u → x ≡ same (text (recOf a) f) (text (recOf b) f)
 field-same a b t u f x p q e = rw (text-is a f, text-is b f, ← p, ← q) e
@@ -48,14 +50,14 @@ pub ruleset for-event = (needs, event-3, event-6, event-8)
 pub ruleset for-joins = (needs, join-4, join-event)
 
 -- is_dated_code, in_block
-module _ (l : Rec) (x : Bool) (e : x ≡ isSound 4 l 6) where
-  pub dated-not : x ≡ false → false ≡ datedCode l
+module _ (l t : Text) (d : t ≡ fieldOf l 6) (x : Bool) (e : x ≡ isDate t) where
+  pub dated-not : x ≡ false → false ≡ datedCode (recOf l)
   unfolding datedCode
-  dated-not h = rw (← e, h)
+  dated-not h = rw (ii-6 (recOf l), text-is l 6, ← d, ← e, h)
 
-  pub dated-both : (y : Bool) → x ≡ true → y ≡ isSound 4 l 8 → y ≡ datedCode l
+  pub dated-both : (u : Text) (y : Bool) → x ≡ true → u ≡ fieldOf l 8 → y ≡ isCode u → y ≡ datedCode (recOf l)
   unfolding datedCode
-  dated-both y h f = rw (← e, h) f
+  dated-both u y h g f = rw (ii-6 (recOf l), ii-8 (recOf l), text-is l 6, text-is l 8, ← d, ← e, h, ← g) f
 
 pub ruleset for-dated-code = (needs, dated-not, dated-both)
 
@@ -64,18 +66,19 @@ module _ (l : Text) (k : ℕ) (d : k ≡ recordOf l) where
   unfolding isInBlock
   block-kind n = rw (kind-is, ← d, ne-eqb k 4 n)
 
-  module _ (z : k ≡ 4) (x : Bool) (e : x ≡ isSound 4 (recOf l) 3) where
+  module _ (z : k ≡ 4) (t : Text) (c : t ≡ fieldOf l 3) (x : Bool) (e : x ≡ isUli t) where
     pub block-3 : x ≡ false → false ≡ isInBlock (recOf l)
     unfolding isInBlock
-    block-3 h = rw (kind-is, ← d, eq-eqb k 4 z, ← e, h)
+    block-3 h = rw (kind-is, ← d, eq-eqb k 4 z, ii-3 (recOf l), text-is l 3, ← c, ← e, h)
 
-    module _ (h : x ≡ true) (y : Bool) (f : y ≡ isSound 4 (recOf l) 4) where
+    module _ (h : x ≡ true) (u : Text) (b : u ≡ fieldOf l 4) (y : Bool) (f : y ≡ isType u) where
       pub block-4 : y ≡ false → false ≡ isInBlock (recOf l)
       unfolding isInBlock
-      block-4 g = rw (kind-is, ← d, eq-eqb k 4 z, ← e, h, ← f, g)
+      block-4 g = rw (kind-is, ← d, eq-eqb k 4 z, ii-3 (recOf l), text-is l 3, ← c, ← e, h, ii-4 (recOf l), text-is l 4, ← b, ← f, g)
 
       pub block-all : (w : Bool) → y ≡ true → w ≡ datedCode (recOf l) → w ≡ isInBlock (recOf l)
       unfolding isInBlock datedCode
-      block-all w g m = rw (kind-is, ← d, eq-eqb k 4 z, ← e, h, ← f, g) m
+      block-all w g m =
+          rw (kind-is, ← d, eq-eqb k 4 z, ii-3 (recOf l), text-is l 3, ← c, ← e, h, ii-4 (recOf l), text-is l 4, ← b, ← f, g) m
 
 pub ruleset for-in-block = (needs, block-kind, block-3, block-4, block-all)

@@ -9,15 +9,15 @@ use borrow.Author.Needs.{needs}
 use borrow.Author.Tests.{eq-eqb, ne-eqb, le-leb}
 use lib.Dec.{eqb}
 use lib.ListN.{length}
-use Rattle.house.specs.Text.{Text, any, within, same}
-use Rattle.house.proofs.Small.{Three, lt, eq, gt, three, clash}
+use Rattle.house.specs.Text.{Text, any, within, isEmpty, same}
+use Rattle.house.proofs.Small.{Three, lt, eq, gt, three}
 use Rattle.lines.specs.Lines.{fieldsOf, fieldOf}
 use Rattle.lines.specs.Records.{Rec, recOf}
-use Rattle.rules.specs.Forms.{Row, text, anything, table, formIn, judgedIn, formOf, isJudged, relaxedBy, isOptional, isMissing, isMisformed, isSound, isGiven}
-use Rattle.rules.specs.Rules.{lacks}
+use Rattle.rules.specs.Forms.{anything, table, formOf, isJudged, isRelaxed, relaxedBy, isSound, isGiven}
 use Rattle.texts.proofs.TextLaws.{within-yes, within-low, within-high}
-use Rattle.forms.specs.Leaves.{refusedBy, lowest}
-use Rattle.forms.proofs.FieldLaws.{text-is, field-is, relaxed-is, empty-true, empty-false}
+use Rattle.forms.specs.Leaves.{refusedBy, optionalIn, lowestIn, soundAs}
+use Rattle.forms.proofs.FieldLaws.{text-is, field-is, relaxed-is, empty-true, empty-false, lowest-either, lowest-filled, sound-as}
+use Rattle.forms.proofs.SoundLaws.{given-by}
 
 pub same-either : (b : Bool) → true ≡ cond b true true
 same-either true = refl
@@ -162,112 +162,112 @@ or-false : (b : Bool) → b ≡ b || false
 or-false true = refl
 or-false false = refl
 
-module _ (k : ℕ) (t : Text) (f : ℕ) where
-  pub optional-in : k ≡ 6 → eqb f 8 ≡ isOptional k (recOf t) f
-  unfolding isOptional
+module _ (k : ℕ) (relaxed : Bool) (f : ℕ) where
+  pub optional-in : k ≡ 6 → eqb f 8 ≡ optionalIn k relaxed f
+  unfolding optionalIn
   optional-in e = rw e (or-false (eqb f 8))
 
-  pub optional-none : (k ≡ 6 → ⊥) → (k ≡ 4 → ⊥) → false ≡ isOptional k (recOf t) f
-  unfolding isOptional
+  pub optional-none : (k ≡ 6 → ⊥) → (k ≡ 4 → ⊥) → false ≡ optionalIn k relaxed f
+  unfolding optionalIn
   optional-none m n = simp (ne-eqb k 6 m, ne-eqb k 4 n)
 
   module _ (e : k ≡ 4) where
-    pub optional-5 : f ≡ 5 → true ≡ isOptional k (recOf t) f
-    unfolding isOptional
+    pub optional-5 : f ≡ 5 → true ≡ optionalIn k relaxed f
+    unfolding optionalIn
     optional-5 h = rw (e, h)
 
-    pub optional-9 : (x : Bool) → 9 ≤ f → f < 16 → x ≡ relaxedBy (fieldsOf t) → x ≡ isOptional k (recOf t) f
-    unfolding isOptional
-    optional-9 x h g r = rw (e, ne-eqb f 5 (λ z. omega arith), within-yes 9 15 f h (omega arith), relaxed-is t) r
+    pub optional-9 : 9 ≤ f → f < 16 → relaxed ≡ optionalIn k relaxed f
+    unfolding optionalIn
+    optional-9 h g = rw (e, ne-eqb f 5 (λ z. omega arith), within-yes 9 15 f h (omega arith))
 
-    pub optional-low : (f ≡ 5 → ⊥) → f < 9 → false ≡ isOptional k (recOf t) f
-    unfolding isOptional
+    pub optional-low : (f ≡ 5 → ⊥) → f < 9 → false ≡ optionalIn k relaxed f
+    unfolding optionalIn
     optional-low n h = rw (e, ne-eqb f 5 n, within-low 9 15 f h)
 
-    pub optional-high : 16 ≤ f → false ≡ isOptional k (recOf t) f
-    unfolding isOptional
+    pub optional-high : 16 ≤ f → false ≡ optionalIn k relaxed f
+    unfolding optionalIn
     optional-high h = rw (e, ne-eqb f 5 (λ z. omega arith), within-high 9 15 f (omega arith))
 
 pub ruleset for-optional = (needs, optional-in, optional-none, optional-5, optional-9, optional-low, optional-high)
 
--- basic_rule, is_sound, is_given, lacks
+-- basic_rule
+module _ (k : ℕ) (relaxed : Bool) (f : ℕ) (t : Text) where
+  module _ (n : length t ≡ 0 → ⊥) (y : Bool) (p : y ≡ formOf k f t) where
+    there : isJudged k f && not (optionalIn k relaxed f) && isEmpty t ≡ false
+    there = rw (empty-false t n) (and-false (isJudged k f && not (optionalIn k relaxed f)))
 
--- a field that is not judged takes any text
-free : (rs : List Row) (k f : ℕ) (t : Text) → judgedIn rs k f ≡ false → formIn rs k f t ≡ true
-free [] k f t h = refl
-free (r ∷ rs) k f t h = go (eqb k (r .kind) && eqb f (r .field)) h (free rs k f t)
-  where
-    go : (b : Bool) → (b || judgedIn rs k f) ≡ false → (judgedIn rs k f ≡ false → formIn rs k f t ≡ true) → cond b (r .form t) (formIn rs k f t) ≡ true
-    go true z g = clash (cc)
-    go false z g = g z
+    pub basic-sound : y ≡ true → 0 ≡ lowestIn k relaxed f t 0
+    unfolding lowestIn
+    basic-sound q = rw (there, ← p, q)
 
-module _ (k : ℕ) (l : Text) (f : ℕ) (x : Bool) (e : x ≡ isJudged k f) where
-  pub basic-unjudged : x ≡ false → 0 ≡ lowest k (recOf l) f 0
-  unfolding lowest isMissing isMisformed isJudged formOf
-  basic-unjudged h = let j : judgedIn table k f ≡ false = sym e ∙ h in rw (j, free table k f (text (recOf l) f) j)
+    pub basic-misformed : y ≡ false → 2 ≡ lowestIn k relaxed f t 0
+    unfolding lowestIn
+    basic-misformed q = rw (there, ← p, q, empty-false t n)
 
-  module _ (g : x ≡ true) (t : Text) (d : t ≡ fieldOf l f) where
-    module _ (h : length t ≡ 0) (y : Bool) (p : y ≡ isOptional k (recOf l) f) where
-      pub basic-optional : y ≡ true → 0 ≡ lowest k (recOf l) f 0
-      unfolding lowest isMissing isMisformed
-      basic-optional q = rw (← e, g, ← p, q, text-is l f, ← d, empty-true t h) (go (formOf k f t))
-        where
-          go : (b : Bool) → _≡_ {A = ℕ} 0 (cond (not b && false) 2 0)
-          go true = refl
-          go false = refl
+  module _ (h : length t ≡ 0) (x : Bool) (e : x ≡ isJudged k f) where
+    empty-free : (b : Bool) → _≡_ {A = ℕ} 0 (cond (not b && false) 2 0)
+    empty-free true = refl
+    empty-free false = refl
 
-      pub basic-missing : y ≡ false → 1 ≡ lowest k (recOf l) f 0
-      unfolding lowest isMissing
-      basic-missing q = rw (← e, g, ← p, q, text-is l f, ← d, empty-true t h)
+    pub basic-unjudged : x ≡ false → 0 ≡ lowestIn k relaxed f t 0
+    unfolding lowestIn
+    basic-unjudged g = rw (← e, g, empty-true t h) (empty-free (formOf k f t))
 
-    module _ (n : length t ≡ 0 → ⊥) (y : Bool) (p : y ≡ formOf k f t) where
-      there : isMissing k (recOf l) f ≡ false
-      unfolding isMissing
-      there = rw (text-is l f, ← d, empty-false t n) (and-false (isJudged k f && not (isOptional k (recOf l) f)))
+    module _ (g : x ≡ true) (y : Bool) (p : y ≡ optionalIn k relaxed f) where
+      pub basic-optional : y ≡ true → 0 ≡ lowestIn k relaxed f t 0
+      unfolding lowestIn
+      basic-optional q = rw (← e, g, ← p, q, empty-true t h) (empty-free (formOf k f t))
 
-      pub basic-sound : y ≡ true → 0 ≡ lowest k (recOf l) f 0
-      unfolding lowest isMisformed
-      basic-sound q = rw (there, text-is l f, ← d, ← p, q)
-
-      pub basic-misformed : y ≡ false → 2 ≡ lowest k (recOf l) f 0
-      unfolding lowest isMisformed
-      basic-misformed q = rw (there, text-is l f, ← d, ← p, q, empty-false t n)
+      pub basic-missing : y ≡ false → 1 ≡ lowestIn k relaxed f t 0
+      unfolding lowestIn
+      basic-missing q = rw (← e, g, ← p, q, empty-true t h)
 
 pub ruleset for-basic = (needs, basic-unjudged, basic-optional, basic-missing, basic-sound, basic-misformed)
 
-pub sound-by : (k : ℕ) (l : Rec) (f r : ℕ) → r ≡ lowest k l f 0 → eqb r 0 ≡ isSound k l f
-unfolding isSound lowest
-sound-by k l f r e = rw e (go (isMissing k l f) (isMisformed k l f))
-  where
-    go : (m n : Bool) → eqb (cond m 1 (cond n 2 0)) 0 ≡ not m && not n
-    go true n = refl
-    go false true = refl
-    go false false = refl
+-- relaxed_at
+module _ (k : ℕ) (l : Text) (f : ℕ) (t : Text) where
+  pub asked-filled : (length t ≡ 0 → ⊥) → lowestIn k false f t 0 ≡ lowestIn k (isRelaxed (recOf l)) f t 0
+  asked-filled n = lowest-filled k f t 0 false (isRelaxed (recOf l)) n
+
+  pub asked-kind : (k ≡ 4 → ⊥) → lowestIn k false f t 0 ≡ lowestIn k (isRelaxed (recOf l)) f t 0
+  asked-kind n = lowest-either k f t 0 false (isRelaxed (recOf l)) (rw (ne-eqb k 4 n))
+
+  pub asked-field : (x : Bool) → k ≡ 4 → x ≡ within 9 15 f → x ≡ false → lowestIn k false f t 0 ≡ lowestIn k (isRelaxed (recOf l)) f t 0
+  asked-field x e d h = lowest-either k f t 0 false (isRelaxed (recOf l)) (rw (eq-eqb k 4 e, ← d) h)
+
+  pub asked-line : (x : Bool) → x ≡ relaxedBy (fieldsOf l) → lowestIn k x f t 0 ≡ lowestIn k (isRelaxed (recOf l)) f t 0
+  asked-line x e = rw (relaxed-is l, ← e)
+
+pub ruleset for-relaxed-at = (needs, asked-filled, asked-kind, asked-field, asked-line)
+
+-- sound_text, is_sound
+pub sound-rule : (k : ℕ) (l : Rec) (f : ℕ) (t : Text) (x : Bool) (r : ℕ)
+    → lowestIn k x f t 0 ≡ lowestIn k (isRelaxed l) f t 0 → r ≡ lowestIn k x f t 0 → eqb r 0 ≡ soundAs k l f t
+unfolding soundAs
+sound-rule k l f t x r d e = rw (e, d)
+
+pub ruleset for-sound-text = (needs, sound-rule)
+
+pub sound-by : (k : ℕ) (l t : Text) (f : ℕ) (x : Bool) → t ≡ fieldOf l f → x ≡ soundAs k (recOf l) f t → x ≡ isSound k (recOf l) f
+sound-by k l t f x d e = rw (← sound-as k (recOf l) f, text-is l f, ← d) e
 
 pub ruleset for-sound = (needs, sound-by)
 
+-- is_given, lacks
 module _ (k : ℕ) (l : Text) (f : ℕ) (t : Text) (d : t ≡ fieldOf l f) where
   pub given-empty : length t ≡ 0 → false ≡ isGiven k (recOf l) f
-  unfolding isGiven
-  given-empty h = rw (text-is l f, ← d, empty-true t h) (sym (and-false (isSound k (recOf l) f)))
+  given-empty h = rw (given-by k (recOf l) f, text-is l f, ← d, empty-true t h)
 
-  pub given-sound : (x : Bool) → (length t ≡ 0 → ⊥) → x ≡ isSound k (recOf l) f → x ≡ isGiven k (recOf l) f
-  unfolding isGiven
-  given-sound x n e = rw (text-is l f, ← d, empty-false t n, ← e) (go x)
-    where
-      go : (b : Bool) → b ≡ b && true
-      go true = refl
-      go false = refl
+  pub given-form : (x : Bool) → (length t ≡ 0 → ⊥) → x ≡ formOf k f t → x ≡ isGiven k (recOf l) f
+  given-form x n e = rw (given-by k (recOf l) f, text-is l f, ← d, empty-false t n) e
 
-pub ruleset for-given = (needs, given-empty, given-sound)
+pub ruleset for-given = (needs, given-empty, given-form)
 
-module _ (l : Text) (f other : ℕ) (t : Text) (d : t ≡ fieldOf l f) where
-  pub lacks-not : (length t ≡ 0 → ⊥) → false ≡ lacks (recOf l) f other
-  unfolding lacks
-  lacks-not n = rw (text-is l f, ← d, empty-false t n)
+module _ (l t : Text) (other : ℕ) where
+  pub lacks-not : (length t ≡ 0 → ⊥) → false ≡ isEmpty t && isGiven 4 (recOf l) other
+  lacks-not n = rw (empty-false t n)
 
-  pub lacks-is : (x : Bool) → length t ≡ 0 → x ≡ isGiven 4 (recOf l) other → x ≡ lacks (recOf l) f other
-  unfolding lacks
-  lacks-is x h e = rw (text-is l f, ← d, empty-true t h) e
+  pub lacks-is : (x : Bool) → length t ≡ 0 → x ≡ isGiven 4 (recOf l) other → x ≡ isEmpty t && isGiven 4 (recOf l) other
+  lacks-is x h e = rw (empty-true t h) e
 
 pub ruleset for-lacks = (needs, lacks-not, lacks-is)

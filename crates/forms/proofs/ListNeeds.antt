@@ -1,27 +1,27 @@
 -- What each need of the functions over the lines of a part asks.
 -- Assumes nothing.
 use mathlib.Core.Path.{_≡_, refl, sym, _∙_}
-use mathlib.Core.Bool.{Bool, true, false, cond, _&&_, _||_}
-use mathlib.Core.List.{List, [], _∷_}
+use mathlib.Core.Bool.{Bool, true, false, _&&_, and-false}
+use mathlib.Core.List.{List}
 use Prim.Native.Nat.{ℕ, _-_, _≤_, _<_}
 use native.Mathlib.Omega.{arith}
 use borrow.Author.Needs.{needs}
 use borrow.Author.Tests.{eq-eqb, ne-eqb}
 use lib.Dec.{eqb}
 use lib.ListN.{length, take, drop}
-use Rattle.house.specs.Text.{Text, any, all, those, same, run, number, isDigit}
+use Rattle.house.specs.Text.{Text, any, all, same, run, number, isDigit}
 use Rattle.house.proofs.Small.{both}
 use Rattle.lines.specs.declared.LineAt.{LineAt}
 use Rattle.lines.specs.Lines.{fieldOf, LineIs}
-use Rattle.lines.specs.Records.{Rec, recordOf, recOf, recs, isKind, II}
+use Rattle.lines.specs.Records.{Rec, recordOf, recOf, recs}
 use Rattle.lines.proofs.LineLaws.{left-falls}
 use Rattle.lines.proofs.PartLaws.{recs-past, recs-on}
-use Rattle.rules.specs.Forms.{text, countForm, isCount, isSound}
-use Rattle.rules.specs.Rules.{sameAntigen, doseOf, sameCount, allIn, countsSound, setsDiffer, sameLot}
+use Rattle.rules.specs.Forms.{countForm, isCount, isSound}
+use Rattle.rules.specs.Rules.{sameAntigen, doseOf, sameCount, allIn, countsSound, setsDiffer}
 use Rattle.texts.specs.Leaves.{valueOf}
 use Rattle.texts.proofs.TextLaws.{value-run}
-use Rattle.forms.specs.Leaves.{antigenIs, lotIs, countIn, soundCount}
-use Rattle.forms.proofs.FieldLaws.{text-is, kind-is}
+use Rattle.forms.specs.Leaves.{soundAs, antigenIs, lotIs, countIn, soundCount}
+use Rattle.forms.proofs.FieldLaws.{text-is, kind-is, sound-as}
 
 -- Loops over lines that ask the same of each
 module _ (p : Rec → Bool) (s : Text) (at : ℕ) (x : Bool) where
@@ -59,49 +59,34 @@ pub ruleset for-any-line = (needs, count-start, any-past, any-here, any-next, le
 
 pub ruleset for-all-lines = (needs, counts-start, all-past, all-here, all-next, left-falls)
 
--- has_antigen, any_antigen
+-- has_antigen
 pub antigen-here : (l t u : Text) (x : Bool) → u ≡ fieldOf l 4 → x ≡ same t u → x ≡ antigenIs t (recOf l)
 unfolding antigenIs
 antigen-here l t u x d e = rw (text-is l 4, ← d) e
 
-antigens-are : (l : Rec) (ls : List Rec) → any (antigenIs (text l 4)) ls ≡ any (sameAntigen l) ls
-unfolding antigenIs sameAntigen
-antigens-are l ls = refl
+pub ruleset for-antigen = (needs, antigen-here)
 
-pub antigen-any : (l t : Text) (ls : List Rec) (x : Bool) → t ≡ fieldOf l 4 → x ≡ any (antigenIs t) ls → x ≡ any (sameAntigen (recOf l)) ls
-antigen-any l t ls x d e = rw (← antigens-are (recOf l) ls, text-is l 4, ← d) e
-
-pub ruleset for-antigen = (needs, antigen-here, antigen-any)
-
--- has_lot, any_lot
+-- has_lot
 module _ (l t : Text) (k : ℕ) (d : k ≡ recordOf l) where
   pub lot-kind : (k ≡ 4 → ⊥) → false ≡ lotIs t (recOf l)
   unfolding lotIs
   lot-kind n = rw (kind-is, ← d, ne-eqb k 4 n)
 
-  module _ (z : k ≡ 4) (x : Bool) (e : x ≡ isSound 4 (recOf l) 15) where
-    pub lot-unsound : x ≡ false → false ≡ lotIs t (recOf l)
+  module _ (z : k ≡ 4) (u : Text) (f : u ≡ fieldOf l 15) (x : Bool) (e : x ≡ same t u) where
+    pub lot-other : x ≡ false → false ≡ lotIs t (recOf l)
     unfolding lotIs
-    lot-unsound h = rw (kind-is, ← d, eq-eqb k 4 z, ← e, h)
+    lot-other h = rw (kind-is, ← d, eq-eqb k 4 z, text-is l 15, ← f, ← e, h) (sym (and-false (isSound 4 (recOf l) 15)))
 
-    pub lot-here : (u : Text) (y : Bool) → x ≡ true → u ≡ fieldOf l 15 → y ≡ same t u → y ≡ lotIs t (recOf l)
+    pub lot-here : (y : Bool) → x ≡ true → y ≡ soundAs 4 (recOf l) 15 u → y ≡ lotIs t (recOf l)
     unfolding lotIs
-    lot-here u y h f g = rw (kind-is, ← d, eq-eqb k 4 z, ← e, h, text-is l 15, ← f) g
+    lot-here y h g =
+        rw (kind-is, ← d, eq-eqb k 4 z, ← sound-as 4 (recOf l) 15, text-is l 15, ← f, ← e, h, ← g) (go y)
+      where
+        go : (b : Bool) → b ≡ b && true
+        go true = refl
+        go false = refl
 
-any-those : (l : Rec) (ps : List Rec) → any (lotIs (text l 15)) ps ≡ any (sameLot l) (those (isKind II) ps)
-unfolding lotIs sameLot
-any-those l [] = refl
-any-those l (p ∷ ps) = go (isKind II p) (any-those l ps)
-  where
-    go : (b : Bool) → any (lotIs (text l 15)) ps ≡ any (sameLot l) (those (isKind II) ps)
-        → (b && sameLot l p) || any (lotIs (text l 15)) ps ≡ any (sameLot l) (cond b (p ∷ those (isKind II) ps) (those (isKind II) ps))
-    go true r = rw r
-    go false r = r
-
-pub lot-any : (l t : Text) (ls : List Rec) (x : Bool) → t ≡ fieldOf l 15 → x ≡ any (lotIs t) ls → x ≡ any (sameLot (recOf l)) (those (isKind 4) ls)
-lot-any l t ls x d e = rw (← any-those (recOf l) ls, text-is l 15, ← d) e
-
-pub ruleset for-lot = (needs, lot-kind, lot-unsound, lot-here, lot-any)
+pub ruleset for-lot = (needs, lot-kind, lot-other, lot-here)
 
 -- dose_of, same_count
 count-value : (t : Text) → isCount t ≡ true → valueOf t ≡ number t

@@ -1,7 +1,7 @@
 -- What each need of the verdicts asks.
 -- Assumes nothing.
 use mathlib.Core.Path.{_≡_, sym, _∙_}
-use mathlib.Core.Bool.{Bool, true, false, cond}
+use mathlib.Core.Bool.{Bool, true, false, not, cond, _&&_}
 use mathlib.Core.List.{List, [], _∷_}
 use Prim.Native.Nat.{ℕ, _≤_, _<_}
 use native.Mathlib.Omega.{arith}
@@ -11,38 +11,39 @@ use lib.Dec.{ltb}
 use Rattle.house.specs.declared.Date.{Date}
 use Rattle.house.specs.declared.Dated.{Dated}
 use Rattle.house.specs.declared.Dated.the-variants.{Day, NoDate}
-use Rattle.house.specs.Text.{Text, any, those, same, number}
+use Rattle.house.specs.Text.{Text, any, isEmpty, same, number}
 use Rattle.house.specs.Dates.{isDate, datedOf}
 use Rattle.house.proofs.Small.{clash}
 use Rattle.house.proofs.DateLaws.{dated-true, dated-false}
 use Rattle.lines.specs.Lines.{fieldOf}
-use Rattle.lines.specs.Records.{Rec, recOf, isKind}
-use Rattle.rules.specs.Forms.{text, isMissing, isMisformed, isSound}
-use Rattle.rules.specs.Rules.{sameLot}
+use Rattle.lines.specs.Records.{Rec, recOf}
+use Rattle.rules.specs.Forms.{formOf, isUli, isJudged}
 use Rattle.texts.specs.Leaves.{valueOf}
-use Rattle.forms.specs.Leaves.{lowest, numberLater, uliLater, dayLater, bornAfter, dateLater, versionLater, lotLater}
+use Rattle.forms.specs.Leaves.{optionalIn, lowestIn, numberLater, uliLater, dayLater, bornAfter, dateLater, versionLater, lotIs, lotLater}
 use Rattle.forms.proofs.FieldLaws.{text-is}
-use Rattle.forms.proofs.SoundLaws.{ip-25}
+use Rattle.forms.proofs.SoundLaws.{ip-3, ip-25}
 
 -- the lowest rule: 1 or 2, or a later one where neither is broken
-module _ (k : ℕ) (l : Rec) (f later r : ℕ) (e : r ≡ lowest k l f 0) where
-  pub rule-broken : (r ≡ 0 → ⊥) → r ≡ lowest k l f later
-  unfolding lowest
-  rule-broken n = go (isMissing k l f) (isMisformed k l f) e
+module _ (k : ℕ) (x : Bool) (f : ℕ) (t : Text) (later r : ℕ) (e : r ≡ lowestIn k x f t 0) where
+  pub rule-broken : (r ≡ 0 → ⊥) → r ≡ lowestIn k x f t later
+  unfolding lowestIn
+  rule-broken n = go (isJudged k f && not (optionalIn k x f) && isEmpty t) (not (formOf k f t) && not (isEmpty t)) e
     where
       go : (a b : Bool) → r ≡ cond a 1 (cond b 2 0) → r ≡ cond a 1 (cond b 2 later)
       go true b h = h
       go false true h = h
       go false false h = absurd (n h)
 
-  pub rule-later : (q : ℕ) → r ≡ 0 → q ≡ later → q ≡ lowest k l f later
-  unfolding lowest
-  rule-later q z h = go (isMissing k l f) (isMisformed k l f) (sym e ∙ z)
+  pub rule-later : (q : ℕ) → r ≡ 0 → q ≡ later → q ≡ lowestIn k x f t later
+  unfolding lowestIn
+  rule-later q z h = go (isJudged k f && not (optionalIn k x f) && isEmpty t) (not (formOf k f t) && not (isEmpty t)) (sym e ∙ z)
     where
       go : (a b : Bool) → _≡_ {A = ℕ} (cond a 1 (cond b 2 0)) 0 → q ≡ cond a 1 (cond b 2 later)
       go true b g = absurd (omega arith)
       go false true g = absurd (omega arith)
       go false false g = h
+
+pub ruleset for-rule = (needs, rule-broken, rule-later)
 
 -- number_later, number_rule
 module _ (n place : ℕ) where
@@ -54,33 +55,31 @@ module _ (n place : ℕ) where
   unfolding numberLater
   number-wrong e = rw (ne-eqb n place e)
 
-pub number-by : (l t : Text) (n place q : ℕ) → t ≡ fieldOf l 2 → n ≡ valueOf t → q ≡ numberLater n place → q ≡ numberLater (valueOf (text (recOf l) 2)) place
-number-by l t n place q d e h = rw (text-is l 2, ← d, ← e) h
+pub number-by : (t : Text) (n place q : ℕ) → n ≡ valueOf t → q ≡ numberLater n place → q ≡ numberLater (valueOf t) place
+number-by t n place q e h = rw (← e) h
 
 pub ruleset for-number-later = (needs, number-right, number-wrong)
 
 pub ruleset for-number-rule = (needs, rule-broken, rule-later, number-by)
 
--- uli_later, uli_rule
-module _ (l p : Text) (x : Bool) (e : x ≡ isSound 3 (recOf p) 3) where
-  pub uli-unsound : x ≡ false → 0 ≡ uliLater (recOf l) (recOf p)
+-- uli_later
+module _ (t p u : Text) (f : u ≡ fieldOf p 3) (x : Bool) (e : x ≡ isUli u) where
+  pub uli-unsound : x ≡ false → 0 ≡ uliLater t (recOf p)
   unfolding uliLater
-  uli-unsound h = rw (← e, h)
+  uli-unsound h = rw (ip-3 (recOf p), text-is p 3, ← f, ← e, h)
 
-  module _ (h : x ≡ true) (t u : Text) (d : t ≡ fieldOf l 3) (f : u ≡ fieldOf p 3) (y : Bool) (g : y ≡ same t u) where
-    pub uli-same : y ≡ true → 0 ≡ uliLater (recOf l) (recOf p)
+  module _ (h : x ≡ true) (y : Bool) (g : y ≡ same t u) where
+    pub uli-same : y ≡ true → 0 ≡ uliLater t (recOf p)
     unfolding uliLater
-    uli-same k = rw (← e, h, text-is l 3, text-is p 3, ← d, ← f, ← g, k)
+    uli-same k = rw (ip-3 (recOf p), text-is p 3, ← f, ← e, h, ← g, k)
 
-    pub uli-other : y ≡ false → 6 ≡ uliLater (recOf l) (recOf p)
+    pub uli-other : y ≡ false → 6 ≡ uliLater t (recOf p)
     unfolding uliLater
-    uli-other k = rw (← e, h, text-is l 3, text-is p 3, ← d, ← f, ← g, k)
+    uli-other k = rw (ip-3 (recOf p), text-is p 3, ← f, ← e, h, ← g, k)
 
 pub ruleset for-uli-later = (needs, uli-unsound, uli-same, uli-other)
 
-pub ruleset for-rule = (needs, rule-broken, rule-later)
-
--- day_later, day_rule
+-- day_later, born_after, date_later
 module _ (t : Text) (d : Dated) (e : d ≡ datedOf t) where
   module _ (x : Date) (h : d ≡ Day x) where
     day-is : number t ≡ x .number
@@ -141,18 +140,6 @@ pub ruleset for-date-later = (needs, date-after, date-before, date-right, date-n
 
 pub ruleset for-born = (needs, born-day, born-none)
 
-module _ (l t : Text) (f today q : ℕ) (d : t ≡ fieldOf l f) where
-  pub day-by : q ≡ dayLater t today → q ≡ dayLater (text (recOf l) f) today
-  day-by h = rw (text-is l f, ← d) h
-
-  pub date-by : (p : Rec) → q ≡ dateLater t today p → q ≡ dateLater (text (recOf l) f) today p
-  date-by p h = rw (text-is l f, ← d) h
-
-  pub version-by : q ≡ versionLater t → q ≡ versionLater (text (recOf l) f)
-  version-by h = rw (text-is l f, ← d) h
-
-pub ruleset for-field-rule = (needs, rule-broken, rule-later, day-by, date-by, version-by)
-
 -- version_later
 module _ (t : Text) (x : Bool) (e : x ≡ same t (55 ∷ 46 ∷ 50 ∷ [])) where
   pub version-right : x ≡ true → 0 ≡ versionLater t
@@ -166,12 +153,12 @@ module _ (t : Text) (x : Bool) (e : x ≡ same t (55 ∷ 46 ∷ 50 ∷ [])) wher
 pub ruleset for-version-later = (needs, version-right, version-wrong)
 
 -- lot_later
-module _ (l : Rec) (ps : List Rec) (x : Bool) (e : x ≡ any (sameLot l) (those (isKind 4) ps)) where
-  pub lot-twice : x ≡ true → 14 ≡ lotLater l ps
+module _ (t : Text) (ps : List Rec) (x : Bool) (e : x ≡ any (lotIs t) ps) where
+  pub lot-twice : x ≡ true → 14 ≡ lotLater t ps
   unfolding lotLater
   lot-twice h = rw (← e, h)
 
-  pub lot-once : x ≡ false → 0 ≡ lotLater l ps
+  pub lot-once : x ≡ false → 0 ≡ lotLater t ps
   unfolding lotLater
   lot-once h = rw (← e, h)
 

@@ -1,6 +1,9 @@
 // Blocks: whether an II is in one, and whether two of them name one event.
-use crate::fields::is_sound;
 use lines::II;
+use texts::is_code;
+use texts::is_date;
+use texts::is_type;
+use texts::is_uli;
 ghost use mathlib.Core.Path.{_≡_};
 ghost use Rattle.house.specs.Text.{same};
 ghost use Rattle.lines.specs.Records.{recOf};
@@ -42,8 +45,8 @@ pub fn joins(a: &[u8], b: &[u8]) -> bool
 fn is_dated_code(line: &[u8]) -> bool
     ensures { λ r. ⌜ r ≡ datedCode (recOf (now (line .entry))) ⌝ }
 {
-    if is_sound(II, line, 6) {
-        is_sound(II, line, 8)
+    if is_date(lines::field_of(line, 6)) {
+        is_code(lines::field_of(line, 8))
     } else {
         false
     }
@@ -56,8 +59,8 @@ pub fn in_block(line: &[u8]) -> bool
     if lines::kind_of(line) != II {
         return false;
     }
-    if is_sound(II, line, 3) {
-        if is_sound(II, line, 4) {
+    if is_uli(lines::field_of(line, 3)) {
+        if is_type(lines::field_of(line, 4)) {
             return is_dated_code(line);
         }
     }

@@ -8,13 +8,13 @@ use lines::IN;
 use lines::IP;
 use lines::IV;
 use texts::*;
+ghost use mathlib.Core.Bool.{_&&_};
 ghost use mathlib.Core.Path.{_≡_};
-ghost use Rattle.house.specs.Text.{within};
+ghost use Rattle.house.specs.Text.{within, isEmpty};
 ghost use Rattle.lines.specs.Lines.{fieldsOf};
 ghost use Rattle.lines.specs.Records.{recOf};
-ghost use Rattle.rules.specs.Forms.{formOf, isJudged, relaxedBy, isOptional, isMissing, isMisformed, isSound, isGiven};
-ghost use Rattle.rules.specs.Rules.{lacks};
-ghost use Rattle.forms.specs.Leaves.{refusedBy, basicRule};
+ghost use Rattle.rules.specs.Forms.{formOf, isJudged, relaxedBy, isRelaxed, isSound, isGiven};
+ghost use Rattle.forms.specs.Leaves.{refusedBy, optionalIn, lowestIn, soundAs};
 
 // The form of field f of an IH.
 fn form_ih(f: usize, t: &[u8]) -> bool
@@ -183,9 +183,9 @@ pub fn relaxed(line: &[u8]) -> bool
     }
 }
 
-// Whether field f of a line may be empty, the line read as a record of a kind.
-fn is_optional(kind: u8, line: &[u8], f: usize) -> bool
-    ensures { λ r. ⌜ r ≡ isOptional kind (recOf (now (line .entry))) f ⌝ }
+// Whether field f of a record of a kind may be empty, an II being a relaxed event or not.
+fn is_optional(kind: u8, relaxed: bool, f: usize) -> bool
+    ensures { λ r. ⌜ r ≡ optionalIn kind relaxed f ⌝ }
 {
     if kind == IN {
         return f == 8;
@@ -195,52 +195,74 @@ fn is_optional(kind: u8, line: &[u8], f: usize) -> bool
     }
     match f {
         5 => true,
-        9..=15 => relaxed(line),
+        9..=15 => relaxed,
         _ => false,
     }
 }
 
-// Which of rules 1 and 2 is broken at field f of a line, 0 for neither.
-pub fn basic_rule(kind: u8, line: &[u8], f: usize) -> u8
-    ensures { λ r. ⌜ r ≡ basicRule kind (recOf (now (line .entry))) f ⌝ }
+// Which of rules 1 and 2 is broken at field f of a record of a kind, by the field's text; 0 for neither.
+pub fn basic_rule(kind: u8, relaxed: bool, f: usize, t: &[u8]) -> u8
+    ensures { λ r. ⌜ r ≡ lowestIn kind relaxed f (now (t .entry)) 0 ⌝ }
 {
-    if is_judged(kind, f) {
-        let text = lines::field_of(line, f);
-        if text.len() == 0 {
-            if is_optional(kind, line, f) {
-                return 0;
-            } else {
-                return 1;
-            }
+    if t.len() != 0 {
+        if form_of(kind, f, t) {
+            return 0;
+        } else {
+            return 2;
         }
-        if form_of(kind, f, text) { 0 } else { 2 }
+    }
+    if is_judged(kind, f) {
+        if is_optional(kind, relaxed, f) { 0 } else { 1 }
     } else {
         0
     }
+}
+
+// Whether a line is a relaxed event, where the answer decides if field f with this text is sound; elsewhere false, unread.
+fn relaxed_at(kind: u8, line: &[u8], f: usize, t: &[u8]) -> bool
+    ensures { λ r. ⌜ lowestIn kind r f (now (t .entry)) 0 ≡ lowestIn kind (isRelaxed (recOf (now (line .entry)))) f (now (t .entry)) 0 ⌝ }
+{
+    if t.len() == 0 {
+        if kind == II {
+            if is_within(9, 15, f) {
+                return relaxed(line);
+            }
+        }
+    }
+    false
+}
+
+// Whether field f of a line is sound, this being its text.
+pub(crate) fn sound_text(kind: u8, line: &[u8], f: usize, t: &[u8]) -> bool
+    ensures { λ r. ⌜ r ≡ soundAs kind (recOf (now (line .entry))) f (now (t .entry)) ⌝ }
+{
+    let loose = relaxed_at(kind, line, f, t);
+    basic_rule(kind, loose, f, t) == 0
 }
 
 // Whether field f of a line is sound: rules 1 and 2 find nothing in it.
 pub fn is_sound(kind: u8, line: &[u8], f: usize) -> bool
     ensures { λ r. ⌜ r ≡ isSound kind (recOf (now (line .entry))) f ⌝ }
 {
-    basic_rule(kind, line, f) == 0
+    sound_text(kind, line, f, lines::field_of(line, f))
 }
 
 // Whether field f of a line is sound and not empty.
 pub fn is_given(kind: u8, line: &[u8], f: usize) -> bool
     ensures { λ r. ⌜ r ≡ isGiven kind (recOf (now (line .entry))) f ⌝ }
 {
-    if lines::field_of(line, f).len() == 0 {
+    let t = lines::field_of(line, f);
+    if t.len() == 0 {
         return false;
     }
-    is_sound(kind, line, f)
+    form_of(kind, f, t)
 }
 
-// Rule 10: whether field f of an II is empty and the other given.
-pub fn lacks(line: &[u8], f: usize, other: usize) -> bool
-    ensures { λ r. ⌜ r ≡ lacks (recOf (now (line .entry))) f other ⌝ }
+// Rule 10: whether this text of a field of an II is empty and the other field given.
+pub fn lacks(line: &[u8], t: &[u8], other: usize) -> bool
+    ensures { λ r. ⌜ r ≡ (isEmpty (now (t .entry)) && isGiven 4 (recOf (now (line .entry))) other) ⌝ }
 {
-    if lines::field_of(line, f).len() == 0 {
+    if t.len() == 0 {
         is_given(II, line, other)
     } else {
         false

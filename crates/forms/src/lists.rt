@@ -1,13 +1,14 @@
 // What is asked of the lines of a part of the file: antigens, counts and lots given before.
 use crate::fields::is_sound;
+use crate::fields::sound_text;
 use lines::IE;
 use lines::II;
 use texts::is_count;
 use texts::value;
 ghost use mathlib.Core.Path.{_≡_};
-ghost use Rattle.house.specs.Text.{any, all, those};
-ghost use Rattle.lines.specs.Records.{recOf, recs, isKind};
-ghost use Rattle.rules.specs.Rules.{sameAntigen, doseOf, sameCount, countsSound, setsDiffer, sameLot};
+ghost use Rattle.house.specs.Text.{any, all};
+ghost use Rattle.lines.specs.Records.{recOf, recs};
+ghost use Rattle.rules.specs.Rules.{doseOf, sameCount, countsSound, setsDiffer};
 ghost use Rattle.forms.specs.Leaves.{antigenIs, lotIs, countIn, soundCount};
 
 // Whether a line gives this antigen.
@@ -17,8 +18,8 @@ fn has_antigen(line: &[u8], t: &[u8]) -> bool
     house::same(t, lines::field_of(line, 4))
 }
 
-// Whether one of these lines gives this antigen.
-fn antigen_among(since: &[u8], t: &[u8]) -> bool
+// Rule 12: whether one of these lines gives this antigen.
+pub fn any_antigen(t: &[u8], since: &[u8]) -> bool
     ensures { λ r. ⌜ r ≡ any (antigenIs (now (t .entry))) (recs (now (since .entry))) ⌝ }
 {
     let mut at = 0;
@@ -33,13 +34,6 @@ fn antigen_among(since: &[u8], t: &[u8]) -> bool
     false
 }
 
-// Rule 12: whether one of these lines gives the line's antigen.
-pub fn any_antigen(line: &[u8], since: &[u8]) -> bool
-    ensures { λ r. ⌜ r ≡ any (sameAntigen (recOf (now (line .entry)))) (recs (now (since .entry))) ⌝ }
-{
-    antigen_among(since, lines::field_of(line, 4))
-}
-
 // Whether a line is an II with this lot.
 fn has_lot(line: &[u8], t: &[u8]) -> bool
     ensures { λ r. ⌜ r ≡ lotIs (now (t .entry)) (recOf (now (line .entry))) ⌝ }
@@ -47,15 +41,16 @@ fn has_lot(line: &[u8], t: &[u8]) -> bool
     if lines::kind_of(line) != II {
         return false;
     }
-    if is_sound(II, line, 15) {
-        house::same(t, lines::field_of(line, 15))
+    let lot = lines::field_of(line, 15);
+    if house::same(t, lot) {
+        sound_text(II, line, 15, lot)
     } else {
         false
     }
 }
 
-// Whether an II among these lines has this lot.
-fn lot_among(block: &[u8], t: &[u8]) -> bool
+// Rule 14: whether an II among the block's lines has this lot.
+pub(crate) fn any_lot(t: &[u8], block: &[u8]) -> bool
     ensures { λ r. ⌜ r ≡ any (lotIs (now (t .entry))) (recs (now (block .entry))) ⌝ }
 {
     let mut at = 0;
@@ -68,13 +63,6 @@ fn lot_among(block: &[u8], t: &[u8]) -> bool
         at = l.next;
     }
     false
-}
-
-// Rule 14: whether an II among the block's lines has the line's lot.
-pub(crate) fn any_lot(line: &[u8], block: &[u8]) -> bool
-    ensures { λ r. ⌜ r ≡ any (sameLot (recOf (now (line .entry)))) (those (isKind 4) (recs (now (block .entry)))) ⌝ }
-{
-    lot_among(block, lines::field_of(line, 15))
 }
 
 // The count of an IE as a number, 0 where it is not sound.

@@ -1,14 +1,16 @@
-// Verdicts: the lowest rule that is broken at a field, 0 for none.
+// Verdicts: the lowest rule that is broken at a field with this text, 0 for none.
 use crate::fields::basic_rule;
-use crate::fields::is_sound;
 use crate::lists::any_lot;
 use lines::II;
 use lines::IP;
 use lines::IV;
+use texts::is_uli;
 use texts::value;
+ghost use mathlib.Core.Bool.{false};
 ghost use mathlib.Core.Path.{_≡_};
 ghost use Rattle.lines.specs.Records.{recOf, recs};
-ghost use Rattle.forms.specs.Leaves.{numberLater, numberRule, uliLater, uliRule, dayLater, dayRule, bornAfter, dateLater, dateRule, versionLater, versionRule, lotLater, lotRule};
+ghost use Rattle.texts.specs.Leaves.{valueOf};
+ghost use Rattle.forms.specs.Leaves.{lowestIn, numberLater, uliLater, dayLater, bornAfter, dateLater, versionLater, lotLater};
 
 // Rule 7, of a number and its place.
 fn number_later(n: u32, place: usize) -> u8
@@ -18,40 +20,37 @@ fn number_later(n: u32, place: usize) -> u8
 }
 
 // Field 2: rules 1, 2 and 7. The place is the line's among IP, II, IE, IN and IA lines, from 1.
-pub fn number_rule(kind: u8, line: &[u8], place: usize) -> u8
-    ensures { λ r. ⌜ r ≡ numberRule kind (recOf (now (line .entry))) place ⌝ }
+pub fn number_rule(kind: u8, t: &[u8], place: usize) -> u8
+    ensures { λ r. ⌜ r ≡ lowestIn kind false 2 (now (t .entry)) (numberLater (valueOf (now (t .entry))) place) ⌝ }
 {
-    let r = basic_rule(kind, line, 2);
+    let r = basic_rule(kind, false, 2, t);
     if r != 0 {
         return r;
     }
-    number_later(value(lines::field_of(line, 2)), place)
+    number_later(value(t), place)
 }
 
-// Rule 6, of a line and its IP.
-fn uli_later(line: &[u8], ip: &[u8]) -> u8
-    ensures { λ r. ⌜ r ≡ uliLater (recOf (now (line .entry))) (recOf (now (ip .entry))) ⌝ }
+// Rule 6, of a ULI and the IP.
+fn uli_later(t: &[u8], ip: &[u8]) -> u8
+    ensures { λ r. ⌜ r ≡ uliLater (now (t .entry)) (recOf (now (ip .entry))) ⌝ }
 {
-    if is_sound(IP, ip, 3) {
-        if house::same(lines::field_of(line, 3), lines::field_of(ip, 3)) {
-            0
-        } else {
-            6
-        }
+    let uli = lines::field_of(ip, 3);
+    if is_uli(uli) {
+        if house::same(t, uli) { 0 } else { 6 }
     } else {
         0
     }
 }
 
 // Field 3 of a line below an IP: rules 1, 2 and 6.
-pub fn uli_rule(kind: u8, line: &[u8], ip: &[u8]) -> u8
-    ensures { λ r. ⌜ r ≡ uliRule kind (recOf (now (line .entry))) (recOf (now (ip .entry))) ⌝ }
+pub fn uli_rule(kind: u8, t: &[u8], ip: &[u8]) -> u8
+    ensures { λ r. ⌜ r ≡ lowestIn kind false 3 (now (t .entry)) (uliLater (now (t .entry)) (recOf (now (ip .entry)))) ⌝ }
 {
-    let r = basic_rule(kind, line, 3);
+    let r = basic_rule(kind, false, 3, t);
     if r != 0 {
         return r;
     }
-    uli_later(line, ip)
+    uli_later(t, ip)
 }
 
 // Rule 8, of a date and today.
@@ -66,14 +65,14 @@ fn day_later(t: &[u8], today: u32) -> u8
 }
 
 // IP 25: rules 1, 2 and 8.
-pub fn day_rule(line: &[u8], today: u32) -> u8
-    ensures { λ r. ⌜ r ≡ dayRule (recOf (now (line .entry))) today ⌝ }
+pub fn day_rule(t: &[u8], today: u32) -> u8
+    ensures { λ r. ⌜ r ≡ lowestIn 3 false 25 (now (t .entry)) (dayLater (now (t .entry)) today) ⌝ }
 {
-    let r = basic_rule(IP, line, 25);
+    let r = basic_rule(IP, false, 25, t);
     if r != 0 {
         return r;
     }
-    day_later(lines::field_of(line, 25), today)
+    day_later(t, today)
 }
 
 // Whether a day lies before a sound IP 25.
@@ -105,14 +104,14 @@ fn date_later(t: &[u8], today: u32, ip: &[u8]) -> u8
 }
 
 // II 6, IN 5: rules 1, 2 and 8.
-pub fn date_rule(kind: u8, line: &[u8], f: usize, today: u32, ip: &[u8]) -> u8
-    ensures { λ r. ⌜ r ≡ dateRule kind (recOf (now (line .entry))) f today (recOf (now (ip .entry))) ⌝ }
+pub fn date_rule(kind: u8, f: usize, t: &[u8], today: u32, ip: &[u8]) -> u8
+    ensures { λ r. ⌜ r ≡ lowestIn kind false f (now (t .entry)) (dateLater (now (t .entry)) today (recOf (now (ip .entry)))) ⌝ }
 {
-    let r = basic_rule(kind, line, f);
+    let r = basic_rule(kind, false, f, t);
     if r != 0 {
         return r;
     }
-    date_later(lines::field_of(line, f), today, ip)
+    date_later(t, today, ip)
 }
 
 // Rule 3, of a version.
@@ -123,30 +122,30 @@ fn version_later(t: &[u8]) -> u8
 }
 
 // IV 2: rules 1 and 3.
-pub fn version_rule(line: &[u8]) -> u8
-    ensures { λ r. ⌜ r ≡ versionRule (recOf (now (line .entry))) ⌝ }
+pub fn version_rule(t: &[u8]) -> u8
+    ensures { λ r. ⌜ r ≡ lowestIn 1 false 2 (now (t .entry)) (versionLater (now (t .entry))) ⌝ }
 {
-    let r = basic_rule(IV, line, 2);
+    let r = basic_rule(IV, false, 2, t);
     if r != 0 {
         return r;
     }
-    version_later(lines::field_of(line, 2))
+    version_later(t)
 }
 
-// Rule 14, of an II and lines before it.
-fn lot_later(line: &[u8], block: &[u8]) -> u8
-    ensures { λ r. ⌜ r ≡ lotLater (recOf (now (line .entry))) (recs (now (block .entry))) ⌝ }
+// Rule 14, of a lot and lines before it.
+fn lot_later(t: &[u8], block: &[u8]) -> u8
+    ensures { λ r. ⌜ r ≡ lotLater (now (t .entry)) (recs (now (block .entry))) ⌝ }
 {
-    if any_lot(line, block) { 14 } else { 0 }
+    if any_lot(t, block) { 14 } else { 0 }
 }
 
 // II 15: rules 1, 2 and 14. The block is its lines before this one.
-pub fn lot_rule(line: &[u8], block: &[u8]) -> u8
-    ensures { λ r. ⌜ r ≡ lotRule (recOf (now (line .entry))) (recs (now (block .entry))) ⌝ }
+pub fn lot_rule(relaxed: bool, t: &[u8], block: &[u8]) -> u8
+    ensures { λ r. ⌜ r ≡ lowestIn 4 relaxed 15 (now (t .entry)) (lotLater (now (t .entry)) (recs (now (block .entry)))) ⌝ }
 {
-    let r = basic_rule(II, line, 15);
+    let r = basic_rule(II, relaxed, 15, t);
     if r != 0 {
         return r;
     }
-    lot_later(line, block)
+    lot_later(t, block)
 }

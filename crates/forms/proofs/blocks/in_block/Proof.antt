@@ -15,4 +15,6 @@ in-block-spec =
     (λ c. search for-in-block)
     (λ c. search for-in-block)
     (λ c. search for-in-block)
+    (λ c. search for-in-block)
+    (λ c. search for-in-block)
     (λ c. search for-in-block))

@@ -11,4 +11,6 @@ is-dated-code-spec =
     (λ c. search for-dated-code)
     (λ c. search for-dated-code)
     (λ c. search for-dated-code)
+    (λ c. search for-dated-code)
+    (λ c. search for-dated-code)
     (λ c. search for-dated-code))

@@ -15,5 +15,4 @@ basic-rule-spec =
     (λ c. search for-basic)
     (λ c. search for-basic)
     (λ c. search for-basic)
-    (λ c. search for-basic)
     (λ c. search for-basic))

@@ -13,5 +13,4 @@ is-optional-spec =
     (λ c. search for-optional)
     (λ c. search for-optional)
     (λ c. search for-optional)
-    (λ c. search for-optional)
     (λ c. search for-optional))

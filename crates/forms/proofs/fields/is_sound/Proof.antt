@@ -9,4 +9,5 @@ is-sound-spec =
     tie.close
     (tie.spec
     (λ c. search for-sound)
+    (λ c. search for-sound)
     (λ c. search for-sound))

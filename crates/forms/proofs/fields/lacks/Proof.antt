@@ -10,5 +10,4 @@ lacks-spec =
     (tie.spec
     (λ c. search for-lacks)
     (λ c. search for-lacks)
-    (λ c. search for-lacks)
     (λ c. search for-lacks))

@@ -1,6 +1,6 @@
 -- `forms::verdicts::date_rule` meets its contract.
 -- Assumes nothing.
-use Rattle.forms.proofs.VerdictNeeds.{for-field-rule}
+use Rattle.forms.proofs.VerdictNeeds.{for-rule}
 use Rattle.forms.proofs.verdicts.date_rule.Statement.{statement}
 use Rattle.forms.proofs.verdicts.date_rule.Tie as tie
 
@@ -8,8 +8,7 @@ pub date-rule-spec : {M : Type 1} → statement M
 date-rule-spec =
     tie.close
     (tie.spec
-    (λ c. search for-field-rule)
-    (λ c. search for-field-rule)
-    (λ c. search for-field-rule)
-    (λ c. search for-field-rule)
-    (λ c. search for-field-rule))
+    (λ c. search for-rule)
+    (λ c. search for-rule)
+    (λ c. search for-rule)
+    (λ c. search for-rule))

@@ -12,5 +12,4 @@ number-rule-spec =
     (λ c. search for-number-rule)
     (λ c. search for-number-rule)
     (λ c. search for-number-rule)
-    (λ c. search for-number-rule)
     (λ c. search for-number-rule))

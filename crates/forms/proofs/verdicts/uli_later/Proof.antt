@@ -13,5 +13,4 @@ uli-later-spec =
     (λ c. search for-uli-later)
     (λ c. search for-uli-later)
     (λ c. search for-uli-later)
-    (λ c. search for-uli-later)
     (λ c. search for-uli-later))
