@@ -104,4 +104,5 @@ module _ (t : Text) (at f : ℕ) (e : fieldsOf (drop at t) ≡ drop f (fieldsOf 
   pub next-fields : fieldsOf (drop (at + pipeLen (drop at t) + 1) t) ≡ drop (suc f) (fieldsOf t)
   next-fields =
       let k : at + pipeLen (drop at t) + 1 ≡ at + suc (pipeLen (drop at t)) = omega arith in
-      rw (k, ← drop-drop) (ap (drop 1) next-first ∙ rw (drop-drop) (ap (λ (n : ℕ). drop n (fieldsOf t)) (omega arith)))
+      let n : f + 1 ≡ suc f = omega arith in
+      rw (k, ← drop-drop) (ap (drop 1) next-first ∙ rw (drop-drop, n))
