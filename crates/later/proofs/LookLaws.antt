@@ -11,7 +11,7 @@ use lib.Dec.{eqb, leb}
 use lib.ListN.{length, drop, length-append}
 use Rattle.house.specs.Text.{Text, isEmpty}
 use Rattle.lines.specs.Lines.{fieldOf}
-use Rattle.lines.specs.Records.{Rec, recOf}
+use Rattle.lines.specs.Records.{recOf}
 use Rattle.book.specs.declared.Position.{Position}
 use Rattle.book.specs.declared.Sections.{Sections}
 use Rattle.book.specs.declared.Found.{Found}
@@ -22,8 +22,8 @@ use Rattle.book.specs.Book.{firstWidth, secondWidth, codeWidth, filled, codeTex
 use Rattle.book.specs.LookUp.{fits, foundIn, inForceAt, standingAt, standingIn}
 use Rattle.book.proofs.WidthLaws.{code-parts}
 use Rattle.book.proofs.StandingLaws.{filled-long}
-use Rattle.rules.specs.Forms.{text, isMissing, isMisformed}
-use Rattle.forms.specs.Leaves.{lowest}
+use Rattle.rules.specs.Forms.{text, formOf, isJudged}
+use Rattle.forms.specs.Leaves.{optionalIn, lowestIn}
 use Rattle.forms.proofs.FieldLaws.{text-is, empty-true, empty-false}
 use Rattle.later.specs.Look.{foundBy, knownBy, forceBy}
 use Rattle.later.specs.Fields.{codeLater}
@@ -142,19 +142,19 @@ pub ruleset for-code-later = (needs, later-unknown, later-in, later-out, later-u
 pub ruleset for-pair = (needs, pair-unknown, pair-in, pair-out)
 
 -- where rules 1 and 2 are broken, no later one is asked for, and where they are not, the later one stands
-module _ (k : ℕ) (l : Rec) (f r n : ℕ) (e : r ≡ lowest k l f 0) where
-  pub low-broken : (r ≡ 0 → ⊥) → r ≡ lowest k l f n
-  unfolding lowest
-  low-broken h = e ∙ go (isMissing k l f) (isMisformed k l f) (λ z. h (e ∙ z))
+module _ (k : ℕ) (x : Bool) (f : ℕ) (t : Text) (r n : ℕ) (e : r ≡ lowestIn k x f t 0) where
+  pub low-broken : (r ≡ 0 → ⊥) → r ≡ lowestIn k x f t n
+  unfolding lowestIn
+  low-broken h = e ∙ go (isJudged k f && not (optionalIn k x f) && isEmpty t) (not (formOf k f t) && not (isEmpty t)) (λ z. h (e ∙ z))
     where
       go : (m w : Bool) → (_≡_ {A = ℕ} (cond m 1 (cond w 2 0)) 0 → ⊥) → cond m 1 (cond w 2 0) ≡ cond m 1 (cond w 2 n)
       go true w h = refl
       go false true h = refl
       go false false h = absurd (h refl)
 
-  low-sound : r ≡ 0 → n ≡ lowest k l f n
-  unfolding lowest
-  low-sound h = go (isMissing k l f) (isMisformed k l f) (sym e ∙ h)
+  low-sound : r ≡ 0 → n ≡ lowestIn k x f t n
+  unfolding lowestIn
+  low-sound h = go (isJudged k f && not (optionalIn k x f) && isEmpty t) (not (formOf k f t) && not (isEmpty t)) (sym e ∙ h)
     where
       go : (m w : Bool) → _≡_ {A = ℕ} (cond m 1 (cond w 2 0)) 0 → n ≡ cond m 1 (cond w 2 n)
       go true w h = absurd (omega arith)
@@ -162,13 +162,13 @@ module _ (k : ℕ) (l : Rec) (f r n : ℕ) (e : r ≡ lowest k l f 0) where
       go false false h = refl
 
 -- code_rule
-module _ (k : ℕ) (line : Text) (f r : ℕ) (e : r ≡ lowest k (recOf line) f 0) (h : r ≡ 0) (t : Text) (p : t ≡ fieldOf line f) (known out : Bool) where
-  pub code-empty : length t ≡ 0 → 0 ≡ lowest k (recOf line) f (codeLater (isEmpty (text (recOf line) f)) known out)
+module _ (k : ℕ) (x : Bool) (f : ℕ) (t : Text) (r : ℕ) (e : r ≡ lowestIn k x f t 0) (h : r ≡ 0) (known out : Bool) where
+  pub code-empty : length t ≡ 0 → 0 ≡ lowestIn k x f t (codeLater (isEmpty t) known out)
   unfolding codeLater
-  code-empty z = rw (text-is line f, ← p, empty-true t z) (low-sound k (recOf line) f r 0 e h)
+  code-empty z = rw (empty-true t z) (low-sound k x f t r 0 e h)
 
-  pub code-given : (x : ℕ) → (length t ≡ 0 → ⊥) → x ≡ codeLater false known out → x ≡ lowest k (recOf line) f (codeLater (isEmpty (text (recOf line) f)) known out)
-  code-given x z y = rw (text-is line f, ← p, empty-false t z, ← y) (low-sound k (recOf line) f r x e h)
+  pub code-given : (y : ℕ) → (length t ≡ 0 → ⊥) → y ≡ codeLater false known out → y ≡ lowestIn k x f t (codeLater (isEmpty t) known out)
+  code-given y z w = rw (empty-false t z, ← w) (low-sound k x f t r y e h)
 
 pub ruleset for-code-rule = (needs, low-broken, code-empty, code-given)
 
@@ -191,17 +191,22 @@ module _ (s : Text) (q : Sections) (head t code : Text) (p : t ≡ fieldOf head 
       → x ≡ not (knownBy s q k (codeText k (text (recOf head) 8) code)) || (dated && not (forceBy s q d k (codeText k (text (recOf head) 8) code)))
   pair-read x dated k d e = rw (text-is head 8, ← p) e
 
-module _ (n : ℕ) (a b c x : Bool) (e : x ≡ a) where
-  pub pair-a : x ≡ false → 0 ≡ cond (a && b && c) n 0
-  pair-a h = rw (← e, h)
+module _ (n : ℕ) (a b c x : Bool) (e : x ≡ c) where
+  pub pair-c : x ≡ false → 0 ≡ cond (a && b && c) n 0
+  pair-c h = rw (← e, h) (go a b)
+    where
+      go : (a b : Bool) → _≡_ {A = ℕ} 0 (cond (a && b && false) n 0)
+      go true true = refl
+      go true false = refl
+      go false b = refl
 
-  module _ (h : x ≡ true) (y : Bool) (f : y ≡ b) where
-    pub pair-b : y ≡ false → 0 ≡ cond (a && b && c) n 0
-    pair-b k = rw (← e, h, ← f, k)
+  module _ (h : x ≡ true) (y : Bool) (f : y ≡ a) where
+    pub pair-a : y ≡ false → 0 ≡ cond (a && b && c) n 0
+    pair-a k = rw (← f, k)
 
-    module _ (k : y ≡ true) (z : Bool) (g : z ≡ c) where
-      pub pair-c : z ≡ false → 0 ≡ cond (a && b && c) n 0
-      pair-c m = rw (← e, h, ← f, k, ← g, m)
+    module _ (k : y ≡ true) (z : Bool) (g : z ≡ b) where
+      pub pair-b : z ≡ false → 0 ≡ cond (a && b && c) n 0
+      pair-b m = rw (← f, k, ← g, m)
 
       pub pair-all : z ≡ true → n ≡ cond (a && b && c) n 0
       pair-all m = rw (← e, h, ← f, k, ← g, m)

@@ -1,6 +1,7 @@
 -- No second answer meets the contract of a public function: each contract is an equation with what a definition gives.
 -- Assumes nothing.
 use mathlib.Core.Path.{_≡_, sym, _∙_}
+use mathlib.Core.Bool.{Bool}
 use Prim.Native.Nat.{ℕ}
 use Rattle.house.specs.Text.{Text}
 use Rattle.lines.specs.Records.{recOf}
@@ -15,31 +16,31 @@ One {A} x = (r q : A) → r ≡ x → q ≡ x → r ≡ q
 one : {A : Type 0} (x : A) → One x
 one x r q e f = e ∙ sym f
 
-module _ (line book : Text) (q : Sections) (day : Day) where
-  code-rule : (k f of : ℕ) (code : Text) → One (codeBy k (recOf line) f of code book q day)
-  code-rule k f of code = one _
+module _ (t book : Text) (q : Sections) (day : Day) where
+  code-rule : (k : ℕ) (x : Bool) (f of : ℕ) (code : Text) → One (codeBy k x f t of code book q day)
+  code-rule k x f of code = one _
 
-  antigen-at : (head since : Text) → One (antigenAt line head since book q day)
-  antigen-at head since = one _
+  antigen-at : (line head since : Text) → One (antigenAt line head since t book q day)
+  antigen-at line head since = one _
 
-  vaccine-at : (own first : Text) (facts : Facts) → One (vaccineAt line own first book q day facts)
+  vaccine-at : (own first : Text) (facts : Facts) → One (vaccineAt t own first book q day facts)
   vaccine-at own first facts = one _
 
-  reason-at : One (reasonAt line book q day)
-  reason-at = one _
+  reason-at : (line : Text) (x : Bool) → One (reasonAt (recOf line) x t book q day)
+  reason-at line x = one _
 
-  dosage-type-at : One (dosageTypeAt line book q day)
-  dosage-type-at = one _
+  dosage-type-at : (line : Text) (x : Bool) → One (dosageTypeAt (recOf line) x t book q day)
+  dosage-type-at line x = one _
 
-module _ (line : Text) where
-  type-at : (facts : Facts) → One (typeAt line facts)
-  type-at facts = one _
+type-at : (t : Text) (facts : Facts) → One (typeAt t facts)
+type-at t facts = one _
 
-  site-at : One (siteAt (recOf line))
+module _ (line t : Text) (x : Bool) where
+  site-at : One (siteAt (recOf line) x t)
   site-at = one _
 
-  method-at : One (methodAt (recOf line))
+  method-at : One (methodAt (recOf line) x t)
   method-at = one _
 
-  dosage-at : One (dosageAt (recOf line))
+  dosage-at : One (dosageAt (recOf line) x t)
   dosage-at = one _

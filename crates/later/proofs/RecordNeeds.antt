@@ -1,19 +1,18 @@
 -- What each need of the functions on an II's and an IE's later rules asks.
 -- Assumes nothing.
-use mathlib.Core.Path.{_≡_, refl, sym, ap, _∙_}
+use mathlib.Core.Path.{_≡_}
 use mathlib.Core.Bool.{Bool, true, false, cond, _&&_}
-use mathlib.Core.List.{List, [], _∷_}
+use mathlib.Core.List.{[], _∷_}
 use Prim.Native.Nat.{ℕ}
 use borrow.Author.Needs.{needs}
-use lib.ListN.{length}
-use Rattle.house.specs.Text.{Text, same, isEmpty}
-use Rattle.lines.specs.Lines.{fieldOf, fieldsOf}
-use Rattle.lines.specs.Records.{Rec, recOf}
-use Rattle.rules.specs.Forms.{text, isGiven, isRelaxed, relaxedBy}
-use Rattle.rules.specs.Codes.{isSite, isMethod}
+use borrow.Author.Tests.{ne-eqb}
+use lib.Dec.{eqb}
+use Rattle.house.specs.Text.{Text, same}
+use Rattle.lines.specs.Lines.{fieldOf}
+use Rattle.lines.specs.Records.{recOf}
+use Rattle.rules.specs.Forms.{text}
 use Rattle.rules.specs.Rules.{siteWrong, methodWrong}
-use Rattle.forms.specs.Leaves.{lowest}
-use Rattle.forms.proofs.FieldLaws.{text-is, relaxed-is}
+use Rattle.forms.proofs.FieldLaws.{text-is}
 use Rattle.later.specs.Fields.{codeLater, ledgerRule}
 use Rattle.later.proofs.LookLaws.{low-broken, code-empty, code-given}
 
@@ -29,6 +28,14 @@ module _ (u v : Bool) (n : ℕ) (x : Bool) (e : x ≡ u) where
     pub asked-yes : y ≡ true → n ≡ cond (u && v) n 0
     asked-yes k = rw (← e, h, ← f, k)
 
+-- the second being known already
+module _ (u v : Bool) (n : ℕ) (x : Bool) (e : x ≡ u) (h : x ≡ true) where
+  pub asked-none : v ≡ false → 0 ≡ cond (u && v) n 0
+  asked-none k = rw (← e, h, k)
+
+  pub asked-more : v ≡ true → n ≡ cond (u && v) n 0
+  asked-more k = rw (← e, h, k)
+
 -- site_rule, method_rule
 module _ (known : Bool) where
   pub site-known : (x : Bool) → x ≡ known → x ≡ true → 0 ≡ codeLater false known false
@@ -39,26 +46,30 @@ module _ (known : Bool) where
   unfolding codeLater
   site-unknown x e h = rw (← e, h)
 
-pub site-read : (line t : Text) (f : ℕ) (x : Bool) → t ≡ fieldOf line f → x ≡ isSite t → x ≡ isSite (text (recOf line) f)
-site-read line t f x p e = rw (text-is line f, ← p) e
-
-pub method-read : (line t : Text) (f : ℕ) (x : Bool) → t ≡ fieldOf line f → x ≡ isMethod t → x ≡ isMethod (text (recOf line) f)
-method-read line t f x p e = rw (text-is line f, ← p) e
-
-pub ruleset for-site = (needs, low-broken, code-empty, code-given, site-known, site-unknown, site-read, method-read)
+pub ruleset for-site = (needs, low-broken, code-empty, code-given, site-known, site-unknown)
 
 -- site_against, method_against
-module _ (line s m : Text) (p : s ≡ fieldOf line 9) (q : m ≡ fieldOf line 10) (x : Bool) where
-  pub site-two : x ≡ siteWrong s m → x ≡ siteWrong (text (recOf line) 9) (text (recOf line) 10)
-  site-two e = rw (text-is line 9, text-is line 10, ← p, ← q) e
+module _ (line s m : Text) (x : Bool) where
+  pub site-two : m ≡ fieldOf line 10 → x ≡ siteWrong s m → x ≡ siteWrong s (text (recOf line) 10)
+  site-two q e = rw (text-is line 10, ← q) e
 
-  pub method-two : x ≡ methodWrong s m → x ≡ methodWrong (text (recOf line) 9) (text (recOf line) 10)
-  method-two e = rw (text-is line 9, text-is line 10, ← p, ← q) e
+  pub method-two : s ≡ fieldOf line 9 → x ≡ methodWrong s m → x ≡ methodWrong (text (recOf line) 9) m
+  method-two p e = rw (text-is line 9, ← p) e
 
-pub relaxed-read : (line : Text) (x : Bool) → x ≡ relaxedBy (fieldsOf line) → x ≡ isRelaxed (recOf line)
-relaxed-read line x e = rw (relaxed-is line) e
+-- again_rule
+pub sound-no : (a : Bool) (n r m : ℕ) → r ≡ n → (r ≡ 0 → ⊥) → 0 ≡ cond (eqb n 0 && a) m 0
+sound-no a n r m e h = rw (← e, ne-eqb r 0 h)
 
-pub ruleset for-asked = (needs, asked-no, asked-not, asked-yes, site-two, method-two, relaxed-read)
+module _ (a : Bool) (n r m : ℕ) (e : r ≡ n) (h : r ≡ 0) (x : Bool) (f : x ≡ a) where
+  pub sound-not : x ≡ false → 0 ≡ cond (eqb n 0 && a) m 0
+  sound-not k = rw (← e, h, ← f, k)
+
+  pub sound-yes : x ≡ true → m ≡ cond (eqb n 0 && a) m 0
+  sound-yes k = rw (← e, h, ← f, k)
+
+pub ruleset for-again = (needs, sound-no, sound-not, sound-yes)
+
+pub ruleset for-asked = (needs, asked-no, asked-not, asked-yes, asked-more, asked-none, site-two, method-two)
 
 -- set_rule
 module _ (r : ℕ) (a b c d : Bool) where
@@ -83,33 +94,33 @@ module _ (r : ℕ) (a b c d : Bool) where
 pub ruleset for-set = (needs, set-a, set-b, set-c, set-d, set-all)
 
 -- ledger_rule
-module _ (inb live : Bool) (line : Text) where
-  pub ledger-out : inb ≡ false → 0 ≡ ledgerRule inb (text (recOf line) 4) live
+module _ (inb live : Bool) (t : Text) where
+  pub ledger-out : inb ≡ false → 0 ≡ ledgerRule inb t live
   unfolding ledgerRule
   ledger-out h = rw h
 
-  module _ (h : inb ≡ true) (t : Text) (p : t ≡ fieldOf line 4) where
+  module _ (h : inb ≡ true) where
     module _ (l : live ≡ true) (x : Bool) (e : x ≡ same t (65 ∷ [])) where
-      pub ledger-add : x ≡ true → 16 ≡ ledgerRule inb (text (recOf line) 4) live
+      pub ledger-add : x ≡ true → 16 ≡ ledgerRule inb t live
       unfolding ledgerRule
-      ledger-add k = rw (h, l, text-is line 4, ← p, ← e, k)
+      ledger-add k = rw (h, l, ← e, k)
 
-      pub ledger-live : x ≡ false → 0 ≡ ledgerRule inb (text (recOf line) 4) live
+      pub ledger-live : x ≡ false → 0 ≡ ledgerRule inb t live
       unfolding ledgerRule
-      ledger-live k = rw (h, l, text-is line 4, ← p, ← e, k)
+      ledger-live k = rw (h, l, ← e, k)
 
     module _ (l : live ≡ false) (x : Bool) (e : x ≡ same t (67 ∷ [])) where
-      pub ledger-change : x ≡ true → 17 ≡ ledgerRule inb (text (recOf line) 4) live
+      pub ledger-change : x ≡ true → 17 ≡ ledgerRule inb t live
       unfolding ledgerRule
-      ledger-change k = rw (h, l, text-is line 4, ← p, ← e, k)
+      ledger-change k = rw (h, l, ← e, k)
 
       module _ (k : x ≡ false) (y : Bool) (f : y ≡ same t (68 ∷ [])) where
-        pub ledger-delete : y ≡ true → 18 ≡ ledgerRule inb (text (recOf line) 4) live
+        pub ledger-delete : y ≡ true → 18 ≡ ledgerRule inb t live
         unfolding ledgerRule
-        ledger-delete m = rw (h, l, text-is line 4, ← p, ← e, k, ← f, m)
+        ledger-delete m = rw (h, l, ← e, k, ← f, m)
 
-        pub ledger-other : y ≡ false → 0 ≡ ledgerRule inb (text (recOf line) 4) live
+        pub ledger-other : y ≡ false → 0 ≡ ledgerRule inb t live
         unfolding ledgerRule
-        ledger-other m = rw (h, l, text-is line 4, ← p, ← e, k, ← f, m)
+        ledger-other m = rw (h, l, ← e, k, ← f, m)
 
 pub ruleset for-ledger = (needs, ledger-out, ledger-add, ledger-live, ledger-change, ledger-delete, ledger-other)

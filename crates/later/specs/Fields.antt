@@ -1,18 +1,19 @@
--- The rules that are broken at a field with later rules, as up to three numbers, 0 for none.
+-- The rules that are broken at a field with later rules, as up to three numbers, 0 for none. The field's text is handed on, and, for an II,
+-- whether it is a relaxed event.
 -- Assumes nothing.
 use Prim.Native.Nat.{ℕ}
 use mathlib.Core.Bool.{Bool, false, not, cond, _&&_, _||_}
 use mathlib.Core.List.{[]}
+use lib.Dec.{eqb}
 use Rattle.house.specs.Text.{Text, any, same, isEmpty, pad}
-use Rattle.lines.specs.Lines.{fieldOf}
 use Rattle.lines.specs.Records.{Rec, II, IE, recOf, recs}
 use Rattle.book.specs.declared.Sections.{Sections}
 use Rattle.book.specs.Book.{codeText}
-use Rattle.rules.specs.Forms.{text, isRelaxed, isSound, isGiven}
+use Rattle.rules.specs.Forms.{text, isGiven}
 use Rattle.rules.specs.Blocks.{adds, changes, deletes}
 use Rattle.rules.specs.Codes.{isSite, isMethod, reasonRead}
-use Rattle.rules.specs.Rules.{siteWrong, methodWrong, lacks, sameAntigen, countsSound, setsDiffer}
-use Rattle.forms.specs.Leaves.{lowest}
+use Rattle.rules.specs.Rules.{siteWrong, methodWrong, countsSound, setsDiffer}
+use Rattle.forms.specs.Leaves.{lowestIn, antigenIs}
 use Rattle.later.specs.declared.Broken.{Broken}
 use Rattle.later.specs.declared.Day.{Day}
 use Rattle.later.specs.declared.Facts.{Facts}
@@ -29,12 +30,12 @@ codeLater empty known out = cond empty 0 (cond known (cond out 5 0) 4)
 unfoldable pub ledgerRule : Bool → Text → Bool → ℕ
 ledgerRule inb type live = cond inb (cond live (cond (same type adds) 16 0) (cond (same type changes) 17 (cond (same type deletes) 18 0))) 0
 
--- rules 1, 2, 4 and 5 at field f of a line of kind k, whose code is one of kind `of`
-abbrev pub codeBy : ℕ → Rec → ℕ → ℕ → Text → Text → Sections → Day → ℕ
-codeBy k l f of t book q day =
-    lowest k l f (codeLater (isEmpty (text l f)) (knownBy book q of (codeText of t [])) (day .sound && not (forceBy book q (day .number) of (codeText of t []))))
+-- rules 1, 2, 4 and 5 at field f of a record of kind k with text t, read as this code of kind `of`
+abbrev pub codeBy : ℕ → Bool → ℕ → Text → ℕ → Text → Text → Sections → Day → ℕ
+codeBy k relaxed f t of code book q day =
+    lowestIn k relaxed f t (codeLater (isEmpty t) (knownBy book q of (codeText of code [])) (day .sound && not (forceBy book q (day .number) of (codeText of code []))))
 
--- rule 11 there, the pair being of kind `pair` and the vaccine in the head
+-- rule 11 at field f of a line of kind k, the pair being of kind `pair` and the vaccine in the head
 abbrev pub pairBy : ℕ → Rec → ℕ → ℕ → Text → ℕ → Rec → Text → Sections → Day → ℕ
 pairBy k l f of t pair head book q day =
     cond
@@ -42,50 +43,48 @@ pairBy k l f of t pair head book q day =
     && (not (knownBy book q pair (codeText pair (text head 8) t)) || (day .sound && not (forceBy book q (day .number) pair (codeText pair (text head 8) t)))))
     11 0
 
-unfoldable pub antigenAt : Text → Text → Text → Text → Sections → Day → Broken
-antigenAt line head since book q day =
-    broken (codeBy IE (recOf line) 4 2 (fieldOf line 4) book q day) (pairBy IE (recOf line) 4 2 (fieldOf line 4) 8 (recOf head) book q day)
-    (cond (isSound IE (recOf line) 4 && any (sameAntigen (recOf line)) (recs since)) 12 0)
+-- rule 10 at a field with text t, which goes with another one
+abbrev pub lackBy : Rec → Bool → Text → ℕ → ℕ
+lackBy l relaxed t other = cond ((isEmpty t && isGiven II l other) && relaxed) 10 0
 
--- The fields of an II with more than one rule
-
--- rule 10 at field f
-abbrev pub lackBy : Rec → ℕ → ℕ → ℕ
-lackBy l f other = cond (lacks l f other && isRelaxed l) 10 0
+-- IE 4
+unfoldable pub antigenAt : Text → Text → Text → Text → Text → Sections → Day → Broken
+antigenAt line head since t book q day =
+    broken (codeBy IE false 4 t 2 t book q day) (pairBy IE (recOf line) 4 2 t 8 (recOf head) book q day)
+    (cond (eqb (lowestIn IE false 4 t 0) 0 && any (antigenIs t) (recs since)) 12 0)
 
 -- II 4
 unfoldable pub typeAt : Text → Facts → Broken
-typeAt line facts = broken (lowest II (recOf line) 4 0) (ledgerRule (facts .inb) (text (recOf line) 4) (facts .live)) 0
+typeAt t facts = broken (lowestIn II false 4 t 0) (ledgerRule (facts .inb) t (facts .live)) 0
 
 -- II 8
 unfoldable pub vaccineAt : Text → Text → Text → Text → Sections → Day → Facts → Broken
-vaccineAt line own first book q day facts =
-    broken (codeBy II (recOf line) 8 1 (fieldOf line 8) book q day)
+vaccineAt t own first book q day facts =
+    broken (codeBy II false 8 t 1 t book q day)
     (cond (facts .joined && (countsSound (recs own) && (countsSound (recs first) && setsDiffer (recs own) (recs first)))) 13 0)
     (cond (facts .repeated) 15 0)
 
 -- II 9
-unfoldable pub siteAt : Rec → Broken
-siteAt l =
-    broken (lowest II l 9 (codeLater (isEmpty (text l 9)) (isSite (text l 9)) false))
-    (cond (siteWrong (text l 9) (text l 10) && (isGiven II l 9 && isGiven II l 10)) 9 0) (lackBy l 9 10)
+unfoldable pub siteAt : Rec → Bool → Text → Broken
+siteAt l relaxed t =
+    broken (lowestIn II relaxed 9 t (codeLater (isEmpty t) (isSite t) false))
+    (cond (siteWrong t (text l 10) && (isGiven II l 9 && isGiven II l 10)) 9 0) (lackBy l relaxed t 10)
 
 -- II 10
-unfoldable pub methodAt : Rec → Broken
-methodAt l =
-    broken (lowest II l 10 (codeLater (isEmpty (text l 10)) (isMethod (text l 10)) false))
-    (cond (methodWrong (text l 9) (text l 10) && (isGiven II l 9 && isGiven II l 10)) 9 0) (lackBy l 10 9)
+unfoldable pub methodAt : Rec → Bool → Text → Broken
+methodAt l relaxed t =
+    broken (lowestIn II relaxed 10 t (codeLater (isEmpty t) (isMethod t) false))
+    (cond (methodWrong (text l 9) t && (isGiven II l 9 && isGiven II l 10)) 9 0) (lackBy l relaxed t 9)
 
 -- II 11, its reason as two bytes
-unfoldable pub reasonAt : Text → Text → Sections → Day → Broken
-reasonAt line book q day =
-    broken (codeBy II (recOf line) 11 3 (pad 2 (reasonRead (fieldOf line 11))) book q day)
-    (pairBy II (recOf line) 11 3 (pad 2 (reasonRead (fieldOf line 11))) 7 (recOf line) book q day) 0
+unfoldable pub reasonAt : Rec → Bool → Text → Text → Sections → Day → Broken
+reasonAt l relaxed t book q day =
+    broken (codeBy II relaxed 11 t 3 (pad 2 (reasonRead t)) book q day) (pairBy II l 11 3 (pad 2 (reasonRead t)) 7 l book q day) 0
 
 -- II 12
-unfoldable pub dosageAt : Rec → Broken
-dosageAt l = broken (lowest II l 12 0) (lackBy l 12 13) 0
+unfoldable pub dosageAt : Rec → Bool → Text → Broken
+dosageAt l relaxed t = broken (lowestIn II relaxed 12 t 0) (lackBy l relaxed t 13) 0
 
 -- II 13
-unfoldable pub dosageTypeAt : Text → Text → Sections → Day → Broken
-dosageTypeAt line book q day = broken (codeBy II (recOf line) 13 5 (fieldOf line 13) book q day) (lackBy (recOf line) 13 12) 0
+unfoldable pub dosageTypeAt : Rec → Bool → Text → Text → Sections → Day → Broken
+dosageTypeAt l relaxed t book q day = broken (codeBy II relaxed 13 t 5 t book q day) (lackBy l relaxed t 12) 0

@@ -5,15 +5,13 @@ use book::Sections;
 use book::Standing;
 use lines::II;
 ghost use mathlib.Core.Path.{_≡_};
-ghost use mathlib.Core.Bool.{cond, false, not, _&&_, _||_};
+ghost use mathlib.Core.Bool.{false, not, _&&_, _||_};
 ghost use mathlib.Core.List.{[]};
-ghost use Rattle.house.specs.Text.{isEmpty};
 ghost use Rattle.lines.specs.Records.{recOf};
 ghost use Rattle.book.specs.Book.{codeText};
-ghost use Rattle.rules.specs.Forms.{text, isGiven};
-ghost use Rattle.forms.specs.Leaves.{lowest};
+ghost use Rattle.rules.specs.Forms.{isGiven};
 ghost use Rattle.later.specs.Look.{knownBy, forceBy};
-ghost use Rattle.later.specs.Fields.{codeLater};
+ghost use Rattle.later.specs.Fields.{codeLater, codeBy, pairBy};
 
 // Whether the book has a code of a kind.
 fn is_known(book: &[u8], q: Sections, kind: u8, code: &[u8]) -> bool
@@ -50,24 +48,25 @@ fn pair_wrong(book: &[u8], q: Sections, kind: u8, a: &[u8], b: &[u8], day: Day) 
     }
 }
 
-// The lowest of rules 1, 2, 4 and 5 at field f of a line, which holds a code of a kind of the book.
+// The lowest of rules 1, 2, 4 and 5 at field f of a record of a kind, with text t, read as a code of a kind of the book.
 pub fn code_rule(
     kind: u8,
-    line: &[u8],
+    relaxed: bool,
     f: usize,
+    t: &[u8],
     of: u8,
     code: &[u8],
     book: &[u8],
     q: Sections,
     day: Day,
 ) -> u8
-    ensures { λ r. ⌜ r ≡ lowest kind (recOf (now (line .entry))) f (codeLater (isEmpty (text (recOf (now (line .entry))) f)) (knownBy (now (book .entry)) q of (codeText of (now (code .entry)) [])) (day .sound && not (forceBy (now (book .entry)) q (day .number) of (codeText of (now (code .entry)) [])))) ⌝ }
+    ensures { λ r. ⌜ r ≡ codeBy kind relaxed f (now (t .entry)) of (now (code .entry)) (now (book .entry)) q day ⌝ }
 {
-    let r = forms::basic_rule(kind, line, f);
+    let r = forms::basic_rule(kind, relaxed, f, t);
     if r != 0 {
         return r;
     }
-    if lines::field_of(line, f).len() == 0 {
+    if t.len() == 0 {
         return 0;
     }
     code_later(book, q, of, code, day)
@@ -92,7 +91,8 @@ fn is_known_at(
     }
 }
 
-// Rule 11 at field f of a line: the pair of its code with the vaccine of its II, where both are known.
+// Rule 11 at field f of a line: the pair of its code with the vaccine of its II, where both are known. The pair is asked for first: most are in
+// force.
 pub(crate) fn pair_rule(
     kind: u8,
     line: &[u8],
@@ -105,12 +105,12 @@ pub(crate) fn pair_rule(
     q: Sections,
     day: Day,
 ) -> u8
-    ensures { λ r. ⌜ r ≡ cond ((isGiven 4 (recOf (now (head .entry))) 8 && knownBy (now (book .entry)) q 1 (codeText 1 (text (recOf (now (head .entry))) 8) [])) && (isGiven kind (recOf (now (line .entry))) f && knownBy (now (book .entry)) q of (codeText of (now (code .entry)) [])) && (not (knownBy (now (book .entry)) q pair (codeText pair (text (recOf (now (head .entry))) 8) (now (code .entry)))) || (day .sound && not (forceBy (now (book .entry)) q (day .number) pair (codeText pair (text (recOf (now (head .entry))) 8) (now (code .entry))))))) 11 0 ⌝ }
+    ensures { λ r. ⌜ r ≡ pairBy kind (recOf (now (line .entry))) f of (now (code .entry)) pair (recOf (now (head .entry))) (now (book .entry)) q day ⌝ }
 {
     let vaccine = lines::field_of(head, 8);
-    if is_known_at(II, head, 8, 1, vaccine, book, q) {
-        if is_known_at(kind, line, f, of, code, book, q) {
-            if pair_wrong(book, q, pair, vaccine, code, day) {
+    if pair_wrong(book, q, pair, vaccine, code, day) {
+        if is_known_at(II, head, 8, 1, vaccine, book, q) {
+            if is_known_at(kind, line, f, of, code, book, q) {
                 return 11;
             }
         }

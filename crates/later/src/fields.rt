@@ -21,11 +21,11 @@ ghost use Rattle.lines.specs.Records.{recOf};
 ghost use Rattle.later.specs.Fields.{typeAt, vaccineAt, siteAt, methodAt, reasonAt, dosageAt, dosageTypeAt, antigenAt};
 
 // II 4: rules 1, 2 and 16 to 18.
-pub fn type_at(line: &[u8], facts: Facts) -> Broken
-    ensures { λ r. ⌜ r ≡ typeAt (now (line .entry)) facts ⌝ }
+pub fn type_at(t: &[u8], facts: Facts) -> Broken
+    ensures { λ r. ⌜ r ≡ typeAt (now (t .entry)) facts ⌝ }
 {
-    let a = forms::basic_rule(II, line, 4);
-    let b = ledger_rule(facts.inb, line, facts.live);
+    let a = forms::basic_rule(II, false, 4, t);
+    let b = ledger_rule(facts.inb, t, facts.live);
     Broken { a, b, c: 0 }
 }
 
@@ -38,7 +38,7 @@ fn repeat_rule(repeated: bool) -> u8
 
 // II 8: rules 1, 2, 4, 5, 13 and 15.
 pub fn vaccine_at(
-    line: &[u8],
+    t: &[u8],
     own: &[u8],
     first: &[u8],
     book: &[u8],
@@ -46,59 +46,66 @@ pub fn vaccine_at(
     day: Day,
     facts: Facts,
 ) -> Broken
-    ensures { λ r. ⌜ r ≡ vaccineAt (now (line .entry)) (now (own .entry)) (now (first .entry)) (now (book .entry)) q day facts ⌝ }
+    ensures { λ r. ⌜ r ≡ vaccineAt (now (t .entry)) (now (own .entry)) (now (first .entry)) (now (book .entry)) q day facts ⌝ }
 {
-    let a = code_rule(II, line, 8, 1, lines::field_of(line, 8), book, q, day);
+    let a = code_rule(II, false, 8, t, 1, t, book, q, day);
     let b = set_rule(facts.joined, own, first);
     let c = repeat_rule(facts.repeated);
     Broken { a, b, c }
 }
 
 // II 9: rules 1, 2, 4, 9 and 10.
-pub fn site_at(line: &[u8]) -> Broken
-    ensures { λ r. ⌜ r ≡ siteAt (recOf (now (line .entry))) ⌝ }
+pub fn site_at(line: &[u8], relaxed: bool, t: &[u8]) -> Broken
+    ensures { λ r. ⌜ r ≡ siteAt (recOf (now (line .entry))) relaxed (now (t .entry)) ⌝ }
 {
-    let a = site_rule(line);
-    let b = site_against(line);
-    let c = lack_rule(line, 9, 10);
+    let a = site_rule(relaxed, t);
+    let b = site_against(line, t);
+    let c = lack_rule(line, relaxed, t, 10);
     Broken { a, b, c }
 }
 
 // II 10: rules 1, 2, 4, 9 and 10.
-pub fn method_at(line: &[u8]) -> Broken
-    ensures { λ r. ⌜ r ≡ methodAt (recOf (now (line .entry))) ⌝ }
+pub fn method_at(line: &[u8], relaxed: bool, t: &[u8]) -> Broken
+    ensures { λ r. ⌜ r ≡ methodAt (recOf (now (line .entry))) relaxed (now (t .entry)) ⌝ }
 {
-    let a = method_rule(line);
-    let b = method_against(line);
-    let c = lack_rule(line, 10, 9);
+    let a = method_rule(relaxed, t);
+    let b = method_against(line, t);
+    let c = lack_rule(line, relaxed, t, 9);
     Broken { a, b, c }
 }
 
 // II 11: rules 1, 2, 4, 5 and 11.
-pub fn reason_at(line: &[u8], book: &[u8], q: Sections, day: Day) -> Broken
-    ensures { λ r. ⌜ r ≡ reasonAt (now (line .entry)) (now (book .entry)) q day ⌝ }
+pub fn reason_at(line: &[u8], relaxed: bool, t: &[u8], book: &[u8], q: Sections, day: Day) -> Broken
+    ensures { λ r. ⌜ r ≡ reasonAt (recOf (now (line .entry))) relaxed (now (t .entry)) (now (book .entry)) q day ⌝ }
 {
-    let read = texts::reason_read(lines::field_of(line, 11));
-    let a = code_rule(II, line, 11, 3, &read, book, q, day);
+    let read = texts::reason_read(t);
+    let a = code_rule(II, relaxed, 11, t, 3, &read, book, q, day);
     let b = pair_rule(II, line, 11, 3, &read, 7, line, book, q, day);
     Broken { a, b, c: 0 }
 }
 
 // II 12: rules 1, 2 and 10.
-pub fn dosage_at(line: &[u8]) -> Broken
-    ensures { λ r. ⌜ r ≡ dosageAt (recOf (now (line .entry))) ⌝ }
+pub fn dosage_at(line: &[u8], relaxed: bool, t: &[u8]) -> Broken
+    ensures { λ r. ⌜ r ≡ dosageAt (recOf (now (line .entry))) relaxed (now (t .entry)) ⌝ }
 {
-    let a = forms::basic_rule(II, line, 12);
-    let b = lack_rule(line, 12, 13);
+    let a = forms::basic_rule(II, relaxed, 12, t);
+    let b = lack_rule(line, relaxed, t, 13);
     Broken { a, b, c: 0 }
 }
 
 // II 13: rules 1, 2, 4, 5 and 10.
-pub fn dosage_type_at(line: &[u8], book: &[u8], q: Sections, day: Day) -> Broken
-    ensures { λ r. ⌜ r ≡ dosageTypeAt (now (line .entry)) (now (book .entry)) q day ⌝ }
+pub fn dosage_type_at(
+    line: &[u8],
+    relaxed: bool,
+    t: &[u8],
+    book: &[u8],
+    q: Sections,
+    day: Day,
+) -> Broken
+    ensures { λ r. ⌜ r ≡ dosageTypeAt (recOf (now (line .entry))) relaxed (now (t .entry)) (now (book .entry)) q day ⌝ }
 {
-    let a = code_rule(II, line, 13, 5, lines::field_of(line, 13), book, q, day);
-    let b = lack_rule(line, 13, 12);
+    let a = code_rule(II, relaxed, 13, t, 5, t, book, q, day);
+    let b = lack_rule(line, relaxed, t, 12);
     Broken { a, b, c: 0 }
 }
 
@@ -107,15 +114,15 @@ pub fn antigen_at(
     line: &[u8],
     head: &[u8],
     since: &[u8],
+    t: &[u8],
     book: &[u8],
     q: Sections,
     day: Day,
 ) -> Broken
-    ensures { λ r. ⌜ r ≡ antigenAt (now (line .entry)) (now (head .entry)) (now (since .entry)) (now (book .entry)) q day ⌝ }
+    ensures { λ r. ⌜ r ≡ antigenAt (now (line .entry)) (now (head .entry)) (now (since .entry)) (now (t .entry)) (now (book .entry)) q day ⌝ }
 {
-    let t = lines::field_of(line, 4);
-    let a = code_rule(IE, line, 4, 2, t, book, q, day);
+    let a = code_rule(IE, false, 4, t, 2, t, book, q, day);
     let b = pair_rule(IE, line, 4, 2, t, 8, head, book, q, day);
-    let c = again_rule(line, since);
+    let c = again_rule(t, since);
     Broken { a, b, c }
 }

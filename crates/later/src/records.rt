@@ -3,23 +3,23 @@ use lines::IE;
 use lines::II;
 ghost use mathlib.Core.Path.{_≡_};
 ghost use mathlib.Core.Bool.{cond, false, _&&_};
+ghost use lib.Dec.{eqb};
 ghost use Rattle.house.specs.Text.{any, isEmpty};
 ghost use Rattle.lines.specs.Records.{recOf, recs};
-ghost use Rattle.rules.specs.Forms.{text, isSound, isGiven, isRelaxed};
+ghost use Rattle.rules.specs.Forms.{text, isGiven};
 ghost use Rattle.rules.specs.Codes.{isSite, isMethod};
-ghost use Rattle.rules.specs.Rules.{siteWrong, methodWrong, lacks, sameAntigen, countsSound, setsDiffer};
-ghost use Rattle.forms.specs.Leaves.{lowest};
-ghost use Rattle.later.specs.Fields.{codeLater, ledgerRule};
+ghost use Rattle.rules.specs.Rules.{siteWrong, methodWrong, countsSound, setsDiffer};
+ghost use Rattle.forms.specs.Leaves.{lowestIn, antigenIs};
+ghost use Rattle.later.specs.Fields.{codeLater, ledgerRule, lackBy};
 
 // II 9: rules 1, 2 and 4.
-pub(crate) fn site_rule(line: &[u8]) -> u8
-    ensures { λ r. ⌜ r ≡ lowest 4 (recOf (now (line .entry))) 9 (codeLater (isEmpty (text (recOf (now (line .entry))) 9)) (isSite (text (recOf (now (line .entry))) 9)) false) ⌝ }
+pub(crate) fn site_rule(relaxed: bool, t: &[u8]) -> u8
+    ensures { λ r. ⌜ r ≡ lowestIn 4 relaxed 9 (now (t .entry)) (codeLater (isEmpty (now (t .entry))) (isSite (now (t .entry))) false) ⌝ }
 {
-    let r = forms::basic_rule(II, line, 9);
+    let r = forms::basic_rule(II, relaxed, 9, t);
     if r != 0 {
         return r;
     }
-    let t = lines::field_of(line, 9);
     if t.len() == 0 {
         return 0;
     }
@@ -27,14 +27,13 @@ pub(crate) fn site_rule(line: &[u8]) -> u8
 }
 
 // II 10: rules 1, 2 and 4.
-pub(crate) fn method_rule(line: &[u8]) -> u8
-    ensures { λ r. ⌜ r ≡ lowest 4 (recOf (now (line .entry))) 10 (codeLater (isEmpty (text (recOf (now (line .entry))) 10)) (isMethod (text (recOf (now (line .entry))) 10)) false) ⌝ }
+pub(crate) fn method_rule(relaxed: bool, t: &[u8]) -> u8
+    ensures { λ r. ⌜ r ≡ lowestIn 4 relaxed 10 (now (t .entry)) (codeLater (isEmpty (now (t .entry))) (isMethod (now (t .entry))) false) ⌝ }
 {
-    let r = forms::basic_rule(II, line, 10);
+    let r = forms::basic_rule(II, relaxed, 10, t);
     if r != 0 {
         return r;
     }
-    let t = lines::field_of(line, 10);
     if t.len() == 0 {
         return 0;
     }
@@ -52,11 +51,11 @@ fn both_given(line: &[u8]) -> bool
     }
 }
 
-// Rule 9 at II 9.
-pub(crate) fn site_against(line: &[u8]) -> u8
-    ensures { λ r. ⌜ r ≡ cond (siteWrong (text (recOf (now (line .entry))) 9) (text (recOf (now (line .entry))) 10) && (isGiven 4 (recOf (now (line .entry))) 9 && isGiven 4 (recOf (now (line .entry))) 10)) 9 0 ⌝ }
+// Rule 9 at II 9, whose text is the site.
+pub(crate) fn site_against(line: &[u8], site: &[u8]) -> u8
+    ensures { λ r. ⌜ r ≡ cond (siteWrong (now (site .entry)) (text (recOf (now (line .entry))) 10) && (isGiven 4 (recOf (now (line .entry))) 9 && isGiven 4 (recOf (now (line .entry))) 10)) 9 0 ⌝ }
 {
-    if texts::site_wrong(lines::field_of(line, 9), lines::field_of(line, 10)) {
+    if texts::site_wrong(site, lines::field_of(line, 10)) {
         if both_given(line) {
             return 9;
         }
@@ -64,11 +63,11 @@ pub(crate) fn site_against(line: &[u8]) -> u8
     0
 }
 
-// Rule 9 at II 10.
-pub(crate) fn method_against(line: &[u8]) -> u8
-    ensures { λ r. ⌜ r ≡ cond (methodWrong (text (recOf (now (line .entry))) 9) (text (recOf (now (line .entry))) 10) && (isGiven 4 (recOf (now (line .entry))) 9 && isGiven 4 (recOf (now (line .entry))) 10)) 9 0 ⌝ }
+// Rule 9 at II 10, whose text is the method.
+pub(crate) fn method_against(line: &[u8], method: &[u8]) -> u8
+    ensures { λ r. ⌜ r ≡ cond (methodWrong (text (recOf (now (line .entry))) 9) (now (method .entry)) && (isGiven 4 (recOf (now (line .entry))) 9 && isGiven 4 (recOf (now (line .entry))) 10)) 9 0 ⌝ }
 {
-    if texts::method_wrong(lines::field_of(line, 9), lines::field_of(line, 10)) {
+    if texts::method_wrong(lines::field_of(line, 9), method) {
         if both_given(line) {
             return 9;
         }
@@ -76,24 +75,24 @@ pub(crate) fn method_against(line: &[u8]) -> u8
     0
 }
 
-// Rule 10: field f is empty and the other given, in a relaxed event.
-pub(crate) fn lack_rule(line: &[u8], f: usize, other: usize) -> u8
-    ensures { λ r. ⌜ r ≡ cond (lacks (recOf (now (line .entry))) f other && isRelaxed (recOf (now (line .entry)))) 10 0 ⌝ }
+// Rule 10: a field is empty and the other given, in a relaxed event.
+pub(crate) fn lack_rule(line: &[u8], relaxed: bool, t: &[u8], other: usize) -> u8
+    ensures { λ r. ⌜ r ≡ lackBy (recOf (now (line .entry))) relaxed (now (t .entry)) other ⌝ }
 {
-    if forms::lacks(line, f, other) {
-        if forms::relaxed(line) {
+    if forms::lacks(line, t, other) {
+        if relaxed {
             return 10;
         }
     }
     0
 }
 
-// Rule 12 at IE 4, of an IE and those of its II before it.
-pub(crate) fn again_rule(line: &[u8], since: &[u8]) -> u8
-    ensures { λ r. ⌜ r ≡ cond (isSound 5 (recOf (now (line .entry))) 4 && any (sameAntigen (recOf (now (line .entry)))) (recs (now (since .entry)))) 12 0 ⌝ }
+// Rule 12 at IE 4, of an antigen and the IE lines of its II before it.
+pub(crate) fn again_rule(t: &[u8], since: &[u8]) -> u8
+    ensures { λ r. ⌜ r ≡ cond (eqb (lowestIn 5 false 4 (now (t .entry)) 0) 0 && any (antigenIs (now (t .entry))) (recs (now (since .entry)))) 12 0 ⌝ }
 {
-    if forms::is_sound(IE, line, 4) {
-        if forms::any_antigen(line, since) {
+    if forms::basic_rule(IE, false, 4, t) == 0 {
+        if forms::any_antigen(t, since) {
             return 12;
         }
     }
@@ -117,11 +116,10 @@ pub(crate) fn set_rule(joined: bool, own: &[u8], first: &[u8]) -> u8
 }
 
 // Rules 16 to 18 at II 4, by the submission type and whether the event is live.
-pub(crate) fn ledger_rule(inb: bool, line: &[u8], live: bool) -> u8
-    ensures { λ r. ⌜ r ≡ ledgerRule inb (text (recOf (now (line .entry))) 4) live ⌝ }
+pub(crate) fn ledger_rule(inb: bool, t: &[u8], live: bool) -> u8
+    ensures { λ r. ⌜ r ≡ ledgerRule inb (now (t .entry)) live ⌝ }
 {
     if inb {
-        let t = lines::field_of(line, 4);
         if live {
             if house::same(t, b"A") {
                 return 16;

@@ -12,5 +12,4 @@ code-rule-spec =
     (λ c. search for-code-rule)
     (λ c. search for-code-rule)
     (λ c. search for-code-rule)
-    (λ c. search for-code-rule)
     (λ c. search for-code-rule))

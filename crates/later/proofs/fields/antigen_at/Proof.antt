@@ -1,6 +1,6 @@
 -- `later::fields::antigen_at` meets its contract.
 -- Assumes nothing.
-use Rattle.later.proofs.FieldNeeds.{for-antigen}
+use Rattle.later.proofs.FieldNeeds.{for-parts}
 use Rattle.later.proofs.fields.antigen_at.Statement.{statement}
 use Rattle.later.proofs.fields.antigen_at.Tie as tie
 
@@ -8,8 +8,7 @@ pub antigen-at-spec : {M : Type 1} → statement M
 antigen-at-spec =
     tie.close
     (tie.spec
-    (λ c. search for-antigen)
-    (λ c. search for-antigen)
-    (λ c. search for-antigen)
-    (λ c. search for-antigen)
-    (λ c. search for-antigen))
+    (λ c. search for-parts)
+    (λ c. search for-parts)
+    (λ c. search for-parts)
+    (λ c. search for-parts))

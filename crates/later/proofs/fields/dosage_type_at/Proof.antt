@@ -10,5 +10,4 @@ dosage-type-at-spec =
     (tie.spec
     (λ c. search for-parts)
     (λ c. search for-parts)
-    (λ c. search for-parts)
     (λ c. search for-parts))

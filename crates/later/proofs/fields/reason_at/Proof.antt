@@ -13,5 +13,4 @@ reason-at-spec =
     (λ c. search for-parts)
     (λ c. search for-parts)
     (λ c. search for-parts)
-    (λ c. search for-parts)
     (λ c. search for-parts))

@@ -11,5 +11,4 @@ vaccine-at-spec =
     (λ c. search for-parts)
     (λ c. search for-parts)
     (λ c. search for-parts)
-    (λ c. search for-parts)
     (λ c. search for-parts))

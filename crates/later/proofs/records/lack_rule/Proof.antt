@@ -11,5 +11,4 @@ lack-rule-spec =
     (λ c. search for-asked)
     (λ c. search for-asked)
     (λ c. search for-asked)
-    (λ c. search for-asked)
     (λ c. search for-asked))

@@ -19,5 +19,4 @@ ledger-rule-spec =
     (λ c. search for-ledger)
     (λ c. search for-ledger)
     (λ c. search for-ledger)
-    (λ c. search for-ledger)
     (λ c. search for-ledger))

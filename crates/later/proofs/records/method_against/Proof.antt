@@ -13,5 +13,4 @@ method-against-spec =
     (λ c. search for-asked)
     (λ c. search for-asked)
     (λ c. search for-asked)
-    (λ c. search for-asked)
     (λ c. search for-asked))

@@ -13,5 +13,4 @@ method-rule-spec =
     (λ c. search for-site)
     (λ c. search for-site)
     (λ c. search for-site)
-    (λ c. search for-site)
     (λ c. search for-site))

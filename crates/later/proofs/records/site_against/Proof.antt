@@ -13,5 +13,4 @@ site-against-spec =
     (λ c. search for-asked)
     (λ c. search for-asked)
     (λ c. search for-asked)
-    (λ c. search for-asked)
     (λ c. search for-asked))

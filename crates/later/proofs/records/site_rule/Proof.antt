@@ -13,5 +13,4 @@ site-rule-spec =
     (λ c. search for-site)
     (λ c. search for-site)
     (λ c. search for-site)
-    (λ c. search for-site)
     (λ c. search for-site))
