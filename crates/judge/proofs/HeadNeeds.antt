@@ -1,21 +1,24 @@
 -- What each need of the functions on an IE's fields asks.
 -- Assumes nothing.
 use mathlib.Core.Path.{_≡_, refl, sym, ap, _∙_}
-use mathlib.Core.Bool.{Bool, not, cond, _&&_, _||_}
+use mathlib.Core.Logic.{inl}
+use mathlib.Core.Bool.{Bool, false, not, cond, _&&_, _||_}
 use mathlib.Core.List.{List, [], reverse}
 use Prim.Native.Nat.{ℕ}
 use borrow.Author.Needs.{needs}
+use lib.Dec.{eqb}
 use Rattle.house.specs.Text.{Text, any}
 use Rattle.lines.specs.Lines.{fieldOf}
 use Rattle.lines.specs.Records.{Rec, II, IE, recordOf, recOf, recs}
 use Rattle.book.specs.declared.Sections.{Sections}
 use Rattle.book.specs.Book.{codeText}
-use Rattle.rules.specs.Forms.{text, table, formOf, isJudged, isOptional, isSound, isGiven, isNumber}
+use Rattle.rules.specs.Forms.{text, table, formOf, isJudged, isOptional, isRelaxed, isSound, isGiven, isNumber}
 use Rattle.rules.specs.Seen.{Setting, Seen}
 use Rattle.rules.specs.Codes.{bookKind, codeRead, codeIn, dayIsSound, isInForce, pairKind, pairIn}
 use Rattle.rules.specs.Rules.{sameAntigen, rule11, rule12, brokenAt}
-use Rattle.forms.specs.Leaves.{lowest, numberRule, uliRule}
-use Rattle.forms.proofs.FieldLaws.{text-is}
+use Rattle.texts.specs.Leaves.{valueOf}
+use Rattle.forms.specs.Leaves.{lowestIn, soundAs, numberLater, uliLater, antigenIs}
+use Rattle.forms.proofs.FieldLaws.{text-is, lowest-either, sound-as, antigens-are}
 use Rattle.later.specs.declared.Broken.{Broken}
 use Rattle.later.specs.declared.Day.{Day}
 use Rattle.judge.specs.Inside.{listed}
@@ -24,7 +27,7 @@ use Rattle.judge.specs.Fields.{Shows, DayIs, Looks}
 use Rattle.judge.proofs.Collapse.{ie-2, ie-3, ie-4, ie-rest}
 use Rattle.judge.proofs.AtLaws.{code-two}
 use Rattle.judge.proofs.RuleLaws.{any-reverse, eleven-ie, twelve}
-use Rattle.judge.proofs.FieldNeeds.{mandatory, kind-at, plain, number-at, uli-at, known-same, force-same, code-is}
+use Rattle.judge.proofs.FieldNeeds.{mandatory, kind-at, plain-either, number-at, uli-at, known-same, force-same, code-is}
 
 -- RULE 11
 
@@ -54,24 +57,24 @@ three-same a a2 b b2 c c2 p q r = rw (p, q, r)
 
 -- IE
 
-module _ (line ip head since book : Text) (q : Sections) (place : ℕ) (day : Day) (today f : ℕ) (b : Broken) (e : recordOf line ≡ 5) where
+module _ (line t ip head since book : Text) (q : Sections) (place : ℕ) (day : Day) (today f : ℕ) (b : Broken) (dt : t ≡ fieldOf line f) (e : recordOf line ≡ 5) where
   module _ (x : ℕ) (p : b ≡ broken x 0 0) where
-    pub need-ie-2 : f ≡ 2 → x ≡ numberRule 5 (recOf line) place
+    pub need-ie-2 : f ≡ 2 → x ≡ lowestIn 5 false 2 t (numberLater (valueOf t) place)
         → (s : Setting) (v : Seen) → Looks today book q s → Shows place line ip v → DayIs day v → v .head ≡ recOf head → v .antigens ≡ reverse (recs since) → listed b ≡ brokenAt s v f
     unfolding isJudged isOptional formOf table
     need-ie-2 h z s v ls sh d hv av =
         rw h
-        (number-at b x p line s v (sh .line-is) 5 place e (sh .place-is) z (mandatory 5 (v .line) 2 (isNumber (text (v .line) 2)) refl refl refl)
+        (number-at b x p line s v (sh .line-is) 5 place e (sh .place-is) t (dt ∙ ap (fieldOf line) h) z refl (mandatory 5 (v .line) 2 (isNumber (text (v .line) 2)) refl refl refl)
         (ie-2 s v (kind-at b x p line s v (sh .line-is) 5 e)))
 
-    pub need-ie-3 : f ≡ 3 → x ≡ uliRule 5 (recOf line) (recOf ip)
+    pub need-ie-3 : f ≡ 3 → x ≡ lowestIn 5 false 3 t (uliLater t (recOf ip))
         → (s : Setting) (v : Seen) → Looks today book q s → Shows place line ip v → DayIs day v → v .head ≡ recOf head → v .antigens ≡ reverse (recs since) → listed b ≡ brokenAt s v f
-    need-ie-3 h z s v ls sh d hv av = rw h (uli-at b x p line ip s v (sh .line-is) (sh .ip-is) 5 e z (ie-3 s v (kind-at b x p line s v (sh .line-is) 5 e)))
+    need-ie-3 h z s v ls sh d hv av = rw h (uli-at b x p line ip s v (sh .line-is) (sh .ip-is) 5 e t (dt ∙ ap (fieldOf line) h) refl z (ie-3 s v (kind-at b x p line s v (sh .line-is) 5 e)))
 
-    pub need-ie-rest : (f ≡ 2 → ⊥) → (f ≡ 3 → ⊥) → (f ≡ 4 → ⊥) → x ≡ lowest 5 (recOf line) f 0
+    pub need-ie-rest : (f ≡ 2 → ⊥) → (f ≡ 3 → ⊥) → (f ≡ 4 → ⊥) → x ≡ lowestIn 5 false f t 0
         → (s : Setting) (v : Seen) → Looks today book q s → Shows place line ip v → DayIs day v → v .head ≡ recOf head → v .antigens ≡ reverse (recs since) → listed b ≡ brokenAt s v f
     need-ie-rest n2 n3 n4 z s v ls sh d hv av =
-        plain b x p line s v (sh .line-is) 5 f e z (ie-rest s v f (kind-at b x p line s v (sh .line-is) 5 e) n2 n3 n4)
+        plain-either b x p line s v (sh .line-is) 5 f t false dt z e (ie-rest s v f (kind-at b x p line s v (sh .line-is) 5 e) n2 n3 n4) refl
 
   module _ (s : Setting) (v : Seen) (ls : Looks today book q s) (sh : Shows place line ip v) (d : DayIs day v) (hv : v .head ≡ recOf head) (av : v .antigens ≡ reverse (recs since)) where
     kind-ie : v .line .kind ≡ IE
@@ -103,17 +106,32 @@ module _ (line ip head since book : Text) (q : Sections) (place : ℕ) (day : Da
     eleven-4 =
         pair-is s v today book q day ls d line head (fieldOf line 4) (sh .line-is) hv 5 4 2 8 code-4 pair-4 ∙ sym (ap (ruled 11) (eleven-ie s v kind-ie))
 
-    at-4 : listed (antigenAt line head since book q day) ≡ brokenAt s v 4
+    sound-4 : eqb (lowestIn IE false 4 (fieldOf line 4) 0) 0 ≡ isSound IE (recOf line) 4
+    unfolding soundAs
+    sound-4 =
+        ap (λ (n : ℕ). eqb n 0) (lowest-either IE 4 (fieldOf line 4) 0 false (isRelaxed (recOf line)) refl)
+        ∙ ap (λ (u : Text). eqb (lowestIn IE (isRelaxed (recOf line)) 4 u 0) 0) (sym (text-is line 4))
+        ∙ sound-as IE (recOf line) 4
+
+    given-4 : _≡_ {A = ℕ} (cond (eqb (lowestIn IE false 4 (fieldOf line 4) 0) 0 && any (antigenIs (fieldOf line 4)) (recs since)) 12 0) (cond (rule12 s v 4) 12 0)
+    given-4 =
+        ap (λ (u : Bool). cond (u && any (antigenIs (fieldOf line 4)) (recs since)) 12 0) sound-4
+        ∙ ap (λ (u : Bool). cond (isSound IE (recOf line) 4 && u) 12 0) (antigens-are (recOf line) (fieldOf line 4) (recs since) (sym (text-is line 4)))
+        ∙ again-4 12
+
+    at-4 : listed (antigenAt line head since (fieldOf line 4) book q day) ≡ brokenAt s v 4
     unfolding antigenAt codeIn bookKind codeRead
     at-4 =
-        three-same _ _ _ _ _ _ (code-is (codeBy IE (recOf line) 4 2 (fieldOf line 4) book q day) line s v (sh .line-is) today book q day ls d 5 4 2 (fieldOf line 4) refl refl refl)
-        eleven-4 (again-4 12)
+        three-same _ _ _ _ _ _
+        (code-is (codeBy IE false 4 (fieldOf line 4) 2 (fieldOf line 4) book q day) line s v (sh .line-is) today book q day ls d 5 4 2 (fieldOf line 4) false refl refl refl (inl refl))
+        eleven-4 given-4
         ∙ sym
         (code-two s v IE 4 kind-ie (s .known 2 (codeIn IE (v .line) 4)) (dayIsSound v && not (isInForce s v 2 (codeIn IE (v .line) 4))) (rule11 s v 4) (rule12 s v 4) 11 12 refl refl
         (ie-4 s v kind-ie))
 
-  pub need-ie-4 : f ≡ 4 → b ≡ antigenAt line head since book q day
+  pub need-ie-4 : f ≡ 4 → b ≡ antigenAt line head since t book q day
       → (s : Setting) (v : Seen) → Looks today book q s → Shows place line ip v → DayIs day v → v .head ≡ recOf head → v .antigens ≡ reverse (recs since) → listed b ≡ brokenAt s v f
-  need-ie-4 h p s v ls sh d hv av = rw (h, p) (at-4 s v ls sh d hv av)
+  need-ie-4 h p s v ls sh d hv av =
+      rw (h, p) (ap (λ (u : Text). listed (antigenAt line head since u book q day)) (dt ∙ ap (fieldOf line) h) ∙ at-4 s v ls sh d hv av)
 
 pub ruleset for-judge-ie = (needs, need-ie-2, need-ie-3, need-ie-4, need-ie-rest)

@@ -2,18 +2,23 @@
 -- Assumes nothing.
 use mathlib.Core.Path.{_≡_, refl, sym, ap, _∙_}
 use mathlib.Core.List.{[], reverse}
-use Prim.Native.Nat.{ℕ, _+_, _-_, _*_, _^_, _≤_, _<_}
+use mathlib.Core.Bool.{Bool, false}
+use Prim.Native.Nat.{ℕ, suc, _+_, _-_, _*_, _^_, _≤_, _<_}
 use native.Mathlib.Omega.{arith}
 use borrow.Author.Needs.{needs}
-use lib.ListN.{length}
+use borrow.Author.Tests.{ne-eqb}
+use lib.ListN.{length, drop}
 use Rattle.house.specs.Text.{Text}
-use Rattle.lines.specs.Lines.{fieldsOf}
+use Rattle.lines.specs.Lines.{fieldsOf, fieldOf}
 use Rattle.lines.specs.Records.{Rec, recordOf, recOf, recs}
 use Rattle.book.specs.declared.Sections.{Sections}
 use Rattle.rules.specs.Seen.{Setting, Seen}
 use Rattle.rules.specs.Rules.{brokenAt}
 use Rattle.rules.specs.Findings.{found, fieldsFindings}
-use Rattle.forms.specs.Leaves.{lowest}
+use Rattle.rules.specs.Forms.{isRelaxed, relaxedBy}
+use Rattle.lines.proofs.FieldLaws.{next-inside, next-text, next-fields}
+use Rattle.forms.specs.Leaves.{lowestIn}
+use Rattle.forms.proofs.FieldLaws.{relaxed-is}
 use Rattle.later.specs.declared.Broken.{Broken}
 use Rattle.later.specs.declared.Day.{Day}
 use Rattle.later.specs.declared.Facts.{Facts}
@@ -21,17 +26,30 @@ use Rattle.judge.specs.Inside.{kept, keep, listed}
 use Rattle.later.specs.Fields.{broken}
 use Rattle.judge.specs.Fields.{laterAt, Shows, DayIs, Looks, Blocked, Told}
 use Rattle.judge.proofs.Collapse.{other-rest}
-use Rattle.judge.proofs.FieldNeeds.{plain}
+use Rattle.judge.proofs.FieldNeeds.{plain-either}
 use Rattle.judge.proofs.TurnLaws.{line-on, line-end}
 
 -- judge_plain
-pub need-plain : (b : Broken) (x k : ℕ) (line : Text) (f : ℕ) → b ≡ broken x 0 0 → k ≡ recordOf line → x ≡ lowest k (recOf line) f 0
+pub need-plain : (b : Broken) (x k : ℕ) (line t : Text) (f : ℕ) → b ≡ broken x 0 0 → t ≡ fieldOf line f → k ≡ recordOf line → (k ≡ 4 → ⊥) → x ≡ lowestIn k false f t 0
     → (s : Setting) (v : Seen) → v .line ≡ recOf line → laterAt s v f ≡ [] → listed b ≡ brokenAt s v f
-need-plain b x k line f p e z s v lv h = plain b x p line s v lv k f (sym e) z h
+need-plain b x k line t f p d e n z s v lv h = plain-either b x p line s v lv k f t false d z (sym e) h (rw (ne-eqb k 4 n))
 
 pub ruleset for-plain = (needs, need-plain)
 
+-- relaxed_of
+module _ (k : ℕ) (line : Text) (x : Bool) where
+  pub relaxed-ii : x ≡ relaxedBy (fieldsOf line) → k ≡ 4 → x ≡ isRelaxed (recOf line)
+  relaxed-ii e z = e ∙ sym (relaxed-is line)
+
+  pub relaxed-no : (k ≡ 4 → ⊥) → k ≡ 4 → x ≡ isRelaxed (recOf line)
+  relaxed-no n z = absurd (n z)
+
+pub ruleset for-relaxed-of = (needs, relaxed-ii, relaxed-no)
+
 -- judge_field
+pub relaxed-told : (k : ℕ) (line : Text) (x : Bool) → (k ≡ 4 → x ≡ isRelaxed (recOf line)) → k ≡ 4 → x ≡ isRelaxed (recOf line)
+relaxed-told k line x h z = h z
+
 module _ (today : ℕ) (book : Text) (q : Sections) (place : ℕ) (line ip head since block own first : Text) (day : Day) (facts : Facts) (f : ℕ) (r : Broken) where
   abbrev Judges : Type 0
   Judges = (s : Setting) (v : Seen) → Told today book q place line ip head since block own first day facts s v → listed r ≡ brokenAt s v f
@@ -67,26 +85,28 @@ module _ (today : ℕ) (book : Text) (q : Sections) (place : ℕ) (line ip head 
       h s v (t .shows .line-is)
       (other-rest s v f (λ z. n1 (sym o ∙ z)) (λ z. n3 (sym o ∙ z)) (λ z. n4 (sym o ∙ z)) (λ z. n5 (sym o ∙ z)) (λ z. n6 (sym o ∙ z)) (λ z. n7 (sym o ∙ z)))
 
-pub ruleset for-judge-field = (needs, field-iv, field-ip, field-ii, field-ie, field-in, field-ia, field-other)
+pub ruleset for-judge-field = (needs, relaxed-told, field-iv, field-ip, field-ii, field-ie, field-in, field-ia, field-other)
 
 -- judge_fields
 module _ (today : ℕ) (book : Text) (q : Sections) (place : ℕ) (line ip head since block own first : Text) (day : Day) (facts : Facts) (n count : ℕ) (area₀ : Text) where
   -- what is left of a line's findings, from field f on
-  pub record Going (fields f c : ℕ) (area : Text) : Type 0 where
+  pub record Going (fields at f c : ℕ) (area : Text) : Type 0 where
     pub from : 1 ≤ f
     pub few : c + 3 ≤ count + 3 * f
     pub on : f ≤ fields + 1
     pub size : length area ≡ length area₀
+    -- the field starts there
+    pub cut : fieldsOf (drop at line) ≡ drop (f - 1) (fieldsOf line)
     pub left : (s : Setting) (v : Seen) → Told today book q place line ip head since block own first day facts s v
         → keep (fieldsFindings s n v 1 (length (fieldsOf line))) (kept count area₀) ≡ keep (fieldsFindings s n v f (fields + 1 - f)) (kept c area)
 
-  pub going-start : (fields : ℕ) → fields ≡ length (fieldsOf line) → Going fields 1 count area₀
-  going-start fields e = record { from = omega arith; few = omega arith; on = omega arith; size = refl; left = λ s v t. rw (add-sub-one fields, e) }
+  pub going-start : (fields : ℕ) → fields ≡ length (fieldsOf line) → Going fields 0 1 count area₀
+  going-start fields e = record { from = omega arith; few = omega arith; on = omega arith; size = refl; cut = refl; left = λ s v t. rw (add-sub-one fields, e) }
     where
       add-sub-one : (m : ℕ) → m + 1 - 1 ≡ m
       add-sub-one m = omega arith
 
-  module _ (fields f c : ℕ) (area : Text) (g : Going fields f c area) where
+  module _ (fields at f c : ℕ) (area : Text) (g : Going fields at f c area) where
     pub going-end : fields < f → fields ≡ length (fieldsOf line) → (s : Setting) (v : Seen) → Told today book q place line ip head since block own first day facts s v
         → kept c area ≡ keep (fieldsFindings s n v 1 (length (fieldsOf line))) (kept count area₀)
     going-end h e s v t = line-end s n v _ f (fields + 1 - f) c area (g .left s v t) (omega arith)
@@ -94,23 +114,40 @@ module _ (today : ℕ) (book : Text) (q : Sections) (place : ℕ) (line ip head 
     pub going-few : fields < f → fields ≡ length (fieldsOf line) → c ≤ count + 3 * length (fieldsOf line)
     going-few h e = omega (arith, g .few, g .on)
 
-    module _ (h : f ≤ fields) where
-      pub going-fits : fields ≡ length (fieldsOf line) → count + 3 * length (fieldsOf line) < 2 ^ 63 → c + 3 < 2 ^ 64
-      going-fits e b = omega (arith, g .few, g .from)
+    module _ (h : f ≤ fields) (e : fields ≡ length (fieldsOf line)) where
+      before : f - 1 < length (fieldsOf line)
+      before = omega (arith, g .from)
 
-      pub going-on : (b : Broken) (d : ℕ) (z : Text) → ((s : Setting) (v : Seen) → Told today book q place line ip head since block own first day facts s v → listed b ≡ brokenAt s v f)
-          → kept d z ≡ keep (found n f (listed b)) (kept c area) → d ≤ c + 3 → length z ≡ length area → Going fields (f + 1) d z
-      going-on b d z i m l y =
-          record {
-            from = omega arith;
-            few = omega (arith, g .few);
-            on = omega arith;
-            size = y ∙ g .size;
-            left =
-                λ s v t.
-                let e : fields + 1 - (f + 1) ≡ fields + 1 - f - 1 = omega arith in
-                line-on s n v _ f (fields + 1 - f) c area (g .left s v t) b d z (omega arith) (i s v t) m
-                ∙ rw e;
-          }
+      step : suc (f - 1) ≡ f
+      step = omega (arith, g .from)
 
-pub ruleset for-judge-fields = (needs, going-start, going-end, going-few, going-fits, going-on)
+      pub going-fits : count + 3 * length (fieldsOf line) < 2 ^ 63 → c + 3 < 2 ^ 64
+      going-fits b = omega (arith, g .few, g .from)
+
+      -- the field's text
+      module _ (t : Text) (z : t ≡ fieldOf (drop at line) 1) where
+        pub going-inside : at + length t < length line
+        going-inside = rw z (next-inside line at (f - 1) (g .cut) before)
+
+        pub going-text : t ≡ fieldOf line f
+        going-text = z ∙ next-text line at (f - 1) (g .cut) before ∙ ap (fieldOf line) step
+
+        pub going-on : (b : Broken) (d : ℕ) (y : Text) → ((s : Setting) (v : Seen) → Told today book q place line ip head since block own first day facts s v → listed b ≡ brokenAt s v f)
+            → kept d y ≡ keep (found n f (listed b)) (kept c area) → d ≤ c + 3 → length y ≡ length area → Going fields (at + length t + 1) (f + 1) d y
+        going-on b d y i m l o =
+            record {
+              from = omega arith;
+              few = omega (arith, g .few);
+              on = omega arith;
+              size = o ∙ g .size;
+              cut =
+                  let u : f + 1 - 1 ≡ suc (f - 1) = omega (arith, g .from) in
+                  rw (z, u) (next-fields line at (f - 1) (g .cut) before);
+              left =
+                  λ s v w.
+                  let u : fields + 1 - (f + 1) ≡ fields + 1 - f - 1 = omega arith in
+                  line-on s n v _ f (fields + 1 - f) c area (g .left s v w) b d y (omega arith) (i s v w) m
+                  ∙ rw u;
+            }
+
+pub ruleset for-judge-fields = (needs, going-start, going-end, going-few, going-fits, going-inside, going-text, going-on)

@@ -1,6 +1,7 @@
 -- What each need of the functions on an II's fields asks.
 -- Assumes nothing.
 use mathlib.Core.Path.{_≡_, refl, sym, ap, _∙_}
+use mathlib.Core.Logic.{inr}
 use mathlib.Core.Bool.{Bool, true, false, not, cond, _&&_, _||_}
 use mathlib.Core.List.{[], _∷_}
 use Prim.Native.Nat.{ℕ}
@@ -16,8 +17,9 @@ use Rattle.rules.specs.Forms.{text, table, formOf, isJudged, isOptional, isMiss
 use Rattle.rules.specs.Seen.{Setting, Seen}
 use Rattle.rules.specs.Codes.{isSite, isMethod, bookKind, reasonRead, codeRead, codeIn, dayIsSound, isInForce, pairKind, pairIn}
 use Rattle.rules.specs.Rules.{siteWrong, methodWrong, lacks, countsSound, setsDiffer, sameLot, rule9, rule10, rule11, rule13, rule15, brokenAt}
-use Rattle.forms.specs.Leaves.{lowest, numberRule, uliRule, dateRule, lotLater, lotRule}
-use Rattle.forms.proofs.FieldLaws.{text-is}
+use Rattle.texts.specs.Leaves.{valueOf}
+use Rattle.forms.specs.Leaves.{lowest, lowestIn, numberLater, uliLater, dateLater, lotLater}
+use Rattle.forms.proofs.FieldLaws.{text-is, lacks-of, lot-later}
 use Rattle.later.specs.declared.Broken.{Broken}
 use Rattle.later.specs.declared.Day.{Day}
 use Rattle.later.specs.declared.Facts.{Facts}
@@ -28,7 +30,7 @@ use Rattle.judge.specs.Fields.{Shows, DayIs, Looks, Blocked}
 use Rattle.judge.proofs.Collapse.{ii-2, ii-3, ii-6, ii-8, ii-9, ii-10, ii-11, ii-12, ii-13, ii-14, ii-15, ii-rest}
 use Rattle.judge.proofs.AtLaws.{more-at, sound-at, code-more, code-two, site-two, ledger-at}
 use Rattle.judge.proofs.RuleLaws.{any-reverse, nine-9, nine-10, ten-9, ten-10, ten-12, ten-13, eleven-ii, thirteen, fifteen, sets-back}
-use Rattle.judge.proofs.FieldNeeds.{low-same, mandatory, plain, number-at, uli-at, date-at, code-need, code-read, code-is}
+use Rattle.judge.proofs.FieldNeeds.{codeOf, by-relaxed, by-either, low-same, mandatory, plain-relaxed, number-at, uli-at, date-at, code-need, code-read, code-is}
 use Rattle.judge.proofs.HeadNeeds.{pair-is, ruled, three-same}
 
 -- II 11: A REASON THAT IS SOUND FILLS TWO BYTES
@@ -63,13 +65,13 @@ module _ (line book : Text) (q : Sections) (day : Day) where
   abbrev read : Text
   read = reasonRead (fieldOf line 11)
 
-  abbrev later : Text → ℕ
-  later r = codeLater (isEmpty (text l 11)) (knownBy book q 3 (codeText 3 r [])) (day .sound && not (forceBy book q (day .number) 3 (codeText 3 r [])))
+  abbrev pub later : Text → ℕ
+  later r = codeOf 3 r book q day (text l 11)
 
   read-whole : isSound II l 11 ≡ true → isEmpty (text l 11) ≡ false → pad 2 read ≡ read
   read-whole h e = reason-whole (fieldOf line 11) (sym (ap isReason (text-is line 11)) ∙ reason-form l h e)
 
-  reason-code : codeBy II l 11 3 (pad 2 read) book q day ≡ codeBy II l 11 3 read book q day
+  reason-code : lowest II l 11 (later (pad 2 read)) ≡ lowest II l 11 (later read)
   unfolding codeLater
   reason-code = low-same II l 11 (later (pad 2 read)) (later read) (λ h. go h (isEmpty (text l 11)) refl)
     where
@@ -92,7 +94,7 @@ module _ (line book : Text) (q : Sections) (day : Day) where
 
 -- II
 
-module _ (line ip block own first book : Text) (q : Sections) (place : ℕ) (day : Day) (today : ℕ) (facts : Facts) (e : recordOf line ≡ 4) where
+module _ (line t ip block own first book : Text) (q : Sections) (place : ℕ) (day : Day) (today : ℕ) (facts : Facts) (x : Bool) (rx : x ≡ isRelaxed (recOf line)) (e : recordOf line ≡ 4) where
   module _ (s : Setting) (v : Seen) (ls : Looks today book q s) (sh : Shows place line ip v) (d : DayIs day v) (bl : Blocked facts line block own first v) where
     kind-ii : v .line .kind ≡ II
     unfolding recOf
@@ -108,38 +110,68 @@ module _ (line ip block own first book : Text) (q : Sections) (place : ℕ) (day
     abbrev out : ℕ → ℕ → Bool
     out f of = dayIsSound v && not (isInForce s v of (codeIn II (v .line) f))
 
-    code-ii : (f of : ℕ) (t : Text) → codeIn II (v .line) f ≡ codeText of t []
-        → codeBy II (recOf line) f of t book q day ≡ lowest II (v .line) f (codeLater (isEmpty (text (v .line) f)) (known f of) (out f of))
-    code-ii f of t re = code-read (codeBy II (recOf line) f of t book q day) line s v (sh .line-is) today book q day ls d II f of t re refl
+    abbrev R : Bool
+    R = isRelaxed (recOf line)
 
-    lack-ii : (f other : ℕ) → rule10 s v f ≡ (lacks (v .line) f other && isRelaxed (v .line)) → lackBy (recOf line) f other ≡ cond (rule10 s v f) 10 0
-    lack-ii f other z = ap (λ (l : Rec). lackBy l f other) (sym (sh .line-is)) ∙ ap (ruled 10) (sym z)
+    code-low : (f of : ℕ) (c : Text) → codeIn II (v .line) f ≡ codeText of c []
+        → lowest II (recOf line) f (codeOf of c book q day (text (recOf line) f)) ≡ lowest II (v .line) f (codeLater (isEmpty (text (v .line) f)) (known f of) (out f of))
+    code-low f of c re = code-read (lowest II (recOf line) f (codeOf of c book q day (text (recOf line) f))) line s v (sh .line-is) today book q day ls d II f of c re refl
 
-    at-4 : listed (typeAt line facts) ≡ brokenAt s v 4
+    code-ii : (f of : ℕ) (c : Text) → codeIn II (v .line) f ≡ codeText of c []
+        → codeBy II R f (fieldOf line f) of c book q day ≡ lowest II (v .line) f (codeLater (isEmpty (text (v .line) f)) (known f of) (out f of))
+    code-ii f of c re = by-relaxed II line (fieldOf line f) f refl (codeOf of c book q day) R refl ∙ code-low f of c re
+
+    -- the lowest rule at field f, by its text
+    low-ii : (f : ℕ) (later : Text → ℕ) → lowestIn II R f (fieldOf line f) (later (fieldOf line f)) ≡ lowest II (v .line) f (later (text (v .line) f))
+    low-ii f later =
+        by-relaxed II line (fieldOf line f) f refl later R refl ∙ ap (λ (l : Rec). lowest II l f (later (text l f))) (sym (sh .line-is))
+
+    lack-ii : (f other : ℕ) → rule10 s v f ≡ (lacks (v .line) f other && isRelaxed (v .line)) → lackBy (recOf line) R (fieldOf line f) other ≡ cond (rule10 s v f) 10 0
+    lack-ii f other z =
+        ap (λ (u : Bool). cond (u && R) 10 0) (lacks-of line (fieldOf line f) f other refl)
+        ∙ ap (λ (l : Rec). cond (lacks l f other && isRelaxed l) 10 0) (sym (sh .line-is))
+        ∙ ap (ruled 10) (sym z)
+
+    at-4 : listed (typeAt (fieldOf line 4) facts) ≡ brokenAt s v 4
     unfolding typeAt
-    at-4 = sym (ledger-at s v kind-ii ∙ rw (sh .line-is, bl .inb-is, bl .live-is))
+    at-4 =
+        three-same _ _ _ _ _ _ (by-either II line (fieldOf line 4) 4 refl (λ (u : Text). 0) false refl)
+        (ap (λ (u : Text). ledgerRule (facts .inb) u (facts .live)) (sym (text-is line 4))) refl
+        ∙ sym (ledger-at s v kind-ii ∙ rw (sh .line-is, bl .inb-is, bl .live-is))
 
-    at-8 : listed (vaccineAt line own first book q day facts) ≡ brokenAt s v 8
+    at-8 : listed (vaccineAt (fieldOf line 8) own first book q day facts) ≡ brokenAt s v 8
     unfolding vaccineAt codeIn bookKind codeRead
     at-8 =
-        three-same _ _ _ _ _ _ (code-ii 8 1 (fieldOf line 8) (ap (λ (u : Text). codeText 1 u []) (text-ii 8)))
+        three-same _ _ _ _ _ _
+        (by-either II line (fieldOf line 8) 8 refl (codeOf 1 (fieldOf line 8) book q day) false refl
+        ∙ code-low 8 1 (fieldOf line 8) (ap (λ (u : Text). codeText 1 u []) (text-ii 8)))
         (rw (sets-back (recs own) (recs first), thirteen s v kind-ii, bl .joined-is, bl .own-is, bl .first-is))
         (rw (fifteen s v kind-ii, bl .repeated-is))
         ∙ sym (code-two s v II 8 kind-ii (known 8 1) (out 8 1) (rule13 s v 8) (rule15 s v 8) 13 15 refl refl (ii-8 s v kind-ii))
 
-    at-9 : listed (siteAt (recOf line)) ≡ brokenAt s v 9
+    site-ii : _≡_ {A = ℕ} (cond (siteWrong (fieldOf line 9) (text (recOf line) 10) && (isGiven II (recOf line) 9 && isGiven II (recOf line) 10)) 9 0) (cond (rule9 s v 9) 9 0)
+    site-ii =
+        ap (λ (u : Text). cond (siteWrong u (text (recOf line) 10) && (isGiven II (recOf line) 9 && isGiven II (recOf line) 10)) 9 0) (sym (text-is line 9))
+        ∙ ap (λ (l : Rec). cond (siteWrong (text l 9) (text l 10) && (isGiven II l 9 && isGiven II l 10)) 9 0) (sym (sh .line-is))
+        ∙ ap (ruled 9) (sym (nine-9 s v kind-ii))
+
+    at-9 : listed (siteAt (recOf line) R (fieldOf line 9)) ≡ brokenAt s v 9
     unfolding siteAt
     at-9 =
-        sym
-        (site-two s v 9 kind-ii (isSite (text (v .line) 9)) (rule9 s v 9) (rule10 s v 9) 9 10 refl refl (ii-9 s v kind-ii)
-        ∙ rw (nine-9 s v kind-ii, ten-9 s v kind-ii, sh .line-is))
+        three-same _ _ _ _ _ _ (low-ii 9 (λ (u : Text). codeLater (isEmpty u) (isSite u) false)) site-ii (lack-ii 9 10 (ten-9 s v kind-ii))
+        ∙ sym (site-two s v 9 kind-ii (isSite (text (v .line) 9)) (rule9 s v 9) (rule10 s v 9) 9 10 refl refl (ii-9 s v kind-ii))
 
-    at-10 : listed (methodAt (recOf line)) ≡ brokenAt s v 10
+    method-ii : _≡_ {A = ℕ} (cond (methodWrong (text (recOf line) 9) (fieldOf line 10) && (isGiven II (recOf line) 9 && isGiven II (recOf line) 10)) 9 0) (cond (rule9 s v 10) 9 0)
+    method-ii =
+        ap (λ (u : Text). cond (methodWrong (text (recOf line) 9) u && (isGiven II (recOf line) 9 && isGiven II (recOf line) 10)) 9 0) (sym (text-is line 10))
+        ∙ ap (λ (l : Rec). cond (methodWrong (text l 9) (text l 10) && (isGiven II l 9 && isGiven II l 10)) 9 0) (sym (sh .line-is))
+        ∙ ap (ruled 9) (sym (nine-10 s v kind-ii))
+
+    at-10 : listed (methodAt (recOf line) R (fieldOf line 10)) ≡ brokenAt s v 10
     unfolding methodAt
     at-10 =
-        sym
-        (site-two s v 10 kind-ii (isMethod (text (v .line) 10)) (rule9 s v 10) (rule10 s v 10) 9 10 refl refl (ii-10 s v kind-ii)
-        ∙ rw (nine-10 s v kind-ii, ten-10 s v kind-ii, sh .line-is))
+        three-same _ _ _ _ _ _ (low-ii 10 (λ (u : Text). codeLater (isEmpty u) (isMethod u) false)) method-ii (lack-ii 10 9 (ten-10 s v kind-ii))
+        ∙ sym (site-two s v 10 kind-ii (isMethod (text (v .line) 10)) (rule9 s v 10) (rule10 s v 10) 9 10 refl refl (ii-10 s v kind-ii))
 
     code-11 : codeIn II (v .line) 11 ≡ codeText 3 (reasonRead (fieldOf line 11)) []
     unfolding codeIn bookKind codeRead
@@ -152,87 +184,109 @@ module _ (line ip block own first book : Text) (q : Sections) (place : ℕ) (day
         ∙ ap (λ (h : Rec). codeText 7 (text h 8) (reasonRead (text (v .line) 11))) (bl .head-is)
         ∙ ap (λ (u : Text). codeText 7 (text (recOf line) 8) (reasonRead u)) (text-ii 11)
 
-    at-11 : listed (reasonAt line book q day) ≡ brokenAt s v 11
+    at-11 : listed (reasonAt (recOf line) R (fieldOf line 11) book q day) ≡ brokenAt s v 11
     unfolding reasonAt
     at-11 =
-        three-same _ _ _ _ _ _ (reason-code line book q day ∙ code-ii 11 3 (reasonRead (fieldOf line 11)) code-11)
+        three-same _ _ _ _ _ _
+        (by-relaxed II line (fieldOf line 11) 11 refl (codeOf 3 (pad 2 (reasonRead (fieldOf line 11))) book q day) R refl
+        ∙ reason-code line book q day
+        ∙ code-low 11 3 (reasonRead (fieldOf line 11)) code-11)
         (reason-pair line book q day 7 (recOf line)
         ∙ pair-is s v today book q day ls d line line (reasonRead (fieldOf line 11)) (sh .line-is) (bl .head-is) II 11 3 7 code-11 pair-11
         ∙ sym (ap (ruled 11) (eleven-ii s v kind-ii)))
         refl
         ∙ sym (code-more s v II 11 kind-ii (known 11 3) (out 11 3) (rule11 s v 11) 11 refl (ii-11 s v kind-ii))
 
-    at-12 : listed (dosageAt (recOf line)) ≡ brokenAt s v 12
+    at-12 : listed (dosageAt (recOf line) R (fieldOf line 12)) ≡ brokenAt s v 12
     unfolding dosageAt
-    at-12 = sym (more-at s v II 12 kind-ii (rule10 s v 12) 10 refl (ii-12 s v kind-ii) ∙ rw (ten-12 s v kind-ii, sh .line-is))
+    at-12 =
+        three-same _ _ _ _ _ _ (low-ii 12 (λ (u : Text). 0)) (lack-ii 12 13 (ten-12 s v kind-ii)) refl
+        ∙ sym (more-at s v II 12 kind-ii (rule10 s v 12) 10 refl (ii-12 s v kind-ii))
 
-    at-13 : listed (dosageTypeAt line book q day) ≡ brokenAt s v 13
+    at-13 : listed (dosageTypeAt (recOf line) R (fieldOf line 13) book q day) ≡ brokenAt s v 13
     unfolding dosageTypeAt codeIn bookKind codeRead
     at-13 =
         three-same _ _ _ _ _ _ (code-ii 13 5 (fieldOf line 13) (ap (λ (u : Text). codeText 5 u []) (text-ii 13))) (lack-ii 13 12 (ten-13 s v kind-ii)) refl
         ∙ sym (code-more s v II 13 kind-ii (known 13 5) (out 13 5) (rule10 s v 13) 10 refl (ii-13 s v kind-ii))
 
-    at-15 : listed (broken (lotRule (recOf line) (recs block)) 0 0) ≡ brokenAt s v 15
-    unfolding lotLater
+    at-15 : listed (broken (lowestIn II R 15 (fieldOf line 15) (lotLater (fieldOf line 15) (recs block))) 0 0) ≡ brokenAt s v 15
     at-15 =
-        sym
+        three-same _ _ _ _ _ _
+        (by-relaxed II line (fieldOf line 15) 15 refl (λ (u : Text). lotLater u (recs block)) R refl
+        ∙ ap (lowest II (recOf line) 15) (lot-later (recOf line) (text (recOf line) 15) (recs block) refl))
+        refl refl
+        ∙ sym
         (sound-at s v II 15 kind-ii (any (sameLot (v .line)) (v .block)) 14 refl (ii-15 s v kind-ii)
         ∙ rw (bl .block-is, any-reverse (sameLot (v .line)) (those (isKind II) (recs block)), sh .line-is))
 
-  module _ (f : ℕ) (b : Broken) where
+  module _ (f : ℕ) (b : Broken) (dt : t ≡ fieldOf line f) where
     abbrev pub Right : Type 0
     Right = (s : Setting) (v : Seen) → Looks today book q s → Shows place line ip v → DayIs day v → Blocked facts line block own first v → listed b ≡ brokenAt s v f
 
-    module _ (x : ℕ) (p : b ≡ broken x 0 0) where
-      pub need-ii-2 : f ≡ 2 → x ≡ numberRule 4 (recOf line) place → Right
+    at : (n : ℕ) → f ≡ n → t ≡ fieldOf line n
+    at n h = dt ∙ ap (fieldOf line) h
+
+    module _ (y : ℕ) (p : b ≡ broken y 0 0) where
+      pub need-ii-2 : f ≡ 2 → y ≡ lowestIn 4 false 2 t (numberLater (valueOf t) place) → Right
       unfolding isJudged isOptional formOf table
       need-ii-2 h z s v ls sh d bl =
           rw h
-          (number-at b x p line s v (sh .line-is) 4 place e (sh .place-is) z (mandatory 4 (v .line) 2 (isNumber (text (v .line) 2)) refl refl refl)
+          (number-at b y p line s v (sh .line-is) 4 place e (sh .place-is) t (at 2 h) z refl (mandatory 4 (v .line) 2 (isNumber (text (v .line) 2)) refl refl refl)
           (ii-2 s v (kind-ii s v ls sh d bl)))
 
-      pub need-ii-3 : f ≡ 3 → x ≡ uliRule 4 (recOf line) (recOf ip) → Right
-      need-ii-3 h z s v ls sh d bl = rw h (uli-at b x p line ip s v (sh .line-is) (sh .ip-is) 4 e z (ii-3 s v (kind-ii s v ls sh d bl)))
+      pub need-ii-3 : f ≡ 3 → y ≡ lowestIn 4 false 3 t (uliLater t (recOf ip)) → Right
+      need-ii-3 h z s v ls sh d bl = rw h (uli-at b y p line ip s v (sh .line-is) (sh .ip-is) 4 e t (at 3 h) refl z (ii-3 s v (kind-ii s v ls sh d bl)))
 
-      pub need-ii-6 : f ≡ 6 → x ≡ dateRule 4 (recOf line) 6 today (recOf ip) → Right
+      pub need-ii-6 : f ≡ 6 → y ≡ lowestIn 4 false 6 t (dateLater t today (recOf ip)) → Right
       unfolding isJudged isOptional formOf table
       need-ii-6 h z s v ls sh d bl =
           rw h
-          (date-at b x p line ip s v (sh .line-is) (sh .ip-is) 4 e 6 today (ls .today-is) z (mandatory 4 (v .line) 6 (isDate (text (v .line) 6)) refl refl refl)
+          (date-at b y p line ip s v (sh .line-is) (sh .ip-is) 4 e 6 today (ls .today-is) t (at 6 h) refl z (mandatory 4 (v .line) 6 (isDate (text (v .line) 6)) refl refl refl)
           (ii-6 s v (kind-ii s v ls sh d bl)))
 
-      pub need-ii-14 : (t : Text) → f ≡ 14 → t ≡ fieldOf line 14 → x ≡ codeBy 4 (recOf line) 14 4 t book q day → Right
+      pub need-ii-14 : f ≡ 14 → y ≡ codeBy 4 x 14 t 4 t book q day → Right
       unfolding codeIn bookKind codeRead
-      need-ii-14 t h pt z s v ls sh d bl =
-          rw h (code-need b x p line s v (sh .line-is) 4 14 4 e (code-is x line s v (sh .line-is) today book q day ls d 4 14 4 t pt refl z) (ii-14 s v (kind-ii s v ls sh d bl)))
+      need-ii-14 h z s v ls sh d bl =
+          rw h
+          (code-need b y p line s v (sh .line-is) 4 14 4 e (code-is y line s v (sh .line-is) today book q day ls d 4 14 4 t x (at 14 h) refl z (inr rx))
+          (ii-14 s v (kind-ii s v ls sh d bl)))
 
-      pub need-ii-15 : f ≡ 15 → x ≡ lotRule (recOf line) (recs block) → Right
-      need-ii-15 h z s v ls sh d bl = rw (h, p, z) (at-15 s v ls sh d bl)
+      pub need-ii-15 : f ≡ 15 → y ≡ lowestIn 4 x 15 t (lotLater t (recs block)) → Right
+      need-ii-15 h z s v ls sh d bl =
+          rw (h, p, z, rx)
+          (ap (λ (u : Text). listed (broken (lowestIn II (isRelaxed (recOf line)) 15 u (lotLater u (recs block))) 0 0)) (at 15 h) ∙ at-15 s v ls sh d bl)
 
       pub need-ii-rest : (f ≡ 2 → ⊥) → (f ≡ 3 → ⊥) → (f ≡ 4 → ⊥) → (f ≡ 6 → ⊥) → (f ≡ 8 → ⊥) → (f ≡ 9 → ⊥) → (f ≡ 10 → ⊥) → (f ≡ 11 → ⊥) → (f ≡ 12 → ⊥) → (f ≡ 13 → ⊥) → (f ≡ 14 → ⊥) → (f ≡ 15 → ⊥)
-          → x ≡ lowest 4 (recOf line) f 0 → Right
+          → y ≡ lowestIn 4 x f t 0 → Right
       need-ii-rest n2 n3 n4 n6 n8 n9 n10 n11 n12 n13 n14 n15 z s v ls sh d bl =
-          plain b x p line s v (sh .line-is) 4 f e z (ii-rest s v f (kind-ii s v ls sh d bl) n2 n3 n4 n6 n8 n9 n10 n11 n12 n13 n14 n15)
+          plain-relaxed b y p line s v (sh .line-is) 4 f t x dt z e (ii-rest s v f (kind-ii s v ls sh d bl) n2 n3 n4 n6 n8 n9 n10 n11 n12 n13 n14 n15) rx
 
-    pub need-ii-4 : f ≡ 4 → b ≡ typeAt line facts → Right
-    need-ii-4 h p s v ls sh d bl = rw (h, p) (at-4 s v ls sh d bl)
+    -- the field's text in place of t
+    module _ (n : ℕ) (h : f ≡ n) (of : Bool → Text → Broken) (p : b ≡ of x t) where
+      by-text : (s : Setting) (v : Seen) → listed (of (isRelaxed (recOf line)) (fieldOf line n)) ≡ brokenAt s v n → listed b ≡ brokenAt s v f
+      by-text s v z =
+          rw (h, p)
+          (ap (λ (u : Text). listed (of x u)) (at n h) ∙ ap (λ (r : Bool). listed (of r (fieldOf line n))) rx ∙ z)
 
-    pub need-ii-8 : f ≡ 8 → b ≡ vaccineAt line own first book q day facts → Right
-    need-ii-8 h p s v ls sh d bl = rw (h, p) (at-8 s v ls sh d bl)
+    pub need-ii-4 : f ≡ 4 → b ≡ typeAt t facts → Right
+    need-ii-4 h p s v ls sh d bl = by-text 4 h (λ (r : Bool) (u : Text). typeAt u facts) p s v (at-4 s v ls sh d bl)
 
-    pub need-ii-9 : f ≡ 9 → b ≡ siteAt (recOf line) → Right
-    need-ii-9 h p s v ls sh d bl = rw (h, p) (at-9 s v ls sh d bl)
+    pub need-ii-8 : f ≡ 8 → b ≡ vaccineAt t own first book q day facts → Right
+    need-ii-8 h p s v ls sh d bl = by-text 8 h (λ (r : Bool) (u : Text). vaccineAt u own first book q day facts) p s v (at-8 s v ls sh d bl)
 
-    pub need-ii-10 : f ≡ 10 → b ≡ methodAt (recOf line) → Right
-    need-ii-10 h p s v ls sh d bl = rw (h, p) (at-10 s v ls sh d bl)
+    pub need-ii-9 : f ≡ 9 → b ≡ siteAt (recOf line) x t → Right
+    need-ii-9 h p s v ls sh d bl = by-text 9 h (siteAt (recOf line)) p s v (at-9 s v ls sh d bl)
 
-    pub need-ii-11 : f ≡ 11 → b ≡ reasonAt line book q day → Right
-    need-ii-11 h p s v ls sh d bl = rw (h, p) (at-11 s v ls sh d bl)
+    pub need-ii-10 : f ≡ 10 → b ≡ methodAt (recOf line) x t → Right
+    need-ii-10 h p s v ls sh d bl = by-text 10 h (methodAt (recOf line)) p s v (at-10 s v ls sh d bl)
 
-    pub need-ii-12 : f ≡ 12 → b ≡ dosageAt (recOf line) → Right
-    need-ii-12 h p s v ls sh d bl = rw (h, p) (at-12 s v ls sh d bl)
+    pub need-ii-11 : f ≡ 11 → b ≡ reasonAt (recOf line) x t book q day → Right
+    need-ii-11 h p s v ls sh d bl = by-text 11 h (λ (r : Bool) (u : Text). reasonAt (recOf line) r u book q day) p s v (at-11 s v ls sh d bl)
 
-    pub need-ii-13 : f ≡ 13 → b ≡ dosageTypeAt line book q day → Right
-    need-ii-13 h p s v ls sh d bl = rw (h, p) (at-13 s v ls sh d bl)
+    pub need-ii-12 : f ≡ 12 → b ≡ dosageAt (recOf line) x t → Right
+    need-ii-12 h p s v ls sh d bl = by-text 12 h (dosageAt (recOf line)) p s v (at-12 s v ls sh d bl)
+
+    pub need-ii-13 : f ≡ 13 → b ≡ dosageTypeAt (recOf line) x t book q day → Right
+    need-ii-13 h p s v ls sh d bl = by-text 13 h (λ (r : Bool) (u : Text). dosageTypeAt (recOf line) r u book q day) p s v (at-13 s v ls sh d bl)
 
 pub ruleset for-judge-ii = (needs, need-ii-2, need-ii-3, need-ii-4, need-ii-6, need-ii-8, need-ii-9, need-ii-10, need-ii-11, need-ii-12, need-ii-13, need-ii-14, need-ii-15, need-ii-rest)

@@ -1,4 +1,4 @@
-// The rules that are broken at a field, by the kind of its record and its number.
+// The rules that are broken at a field with text t, by the kind of its record and its number.
 use book::Sections;
 use later::Broken;
 use later::Day;
@@ -9,6 +9,7 @@ use lines::IP;
 use lines::IV;
 ghost use mathlib.Core.Path.{_≡_};
 ghost use mathlib.Core.List.{[], reverse};
+ghost use Rattle.lines.specs.Lines.{fieldOf};
 ghost use Rattle.lines.specs.Records.{recordOf, recOf, recs};
 ghost use Rattle.rules.specs.Seen.{Setting, Seen};
 ghost use Rattle.rules.specs.Rules.{brokenAt};
@@ -23,33 +24,37 @@ pub(crate) fn one(a: u8) -> Broken
 }
 
 // Field f of a record of a kind that has no later rules.
-pub(crate) fn judge_plain(k: u8, line: &[u8], f: usize) -> Broken
+pub(crate) fn judge_plain(k: u8, line: &[u8], f: usize, t: &[u8]) -> Broken
+    requires { ⌜ now t ≡ fieldOf (now line) f ⌝ }
     requires { ⌜ k ≡ recordOf (now line) ⌝ }
+    requires { ⌜ (k ≡ 4 → ⊥) ⌝ }
     ensures { λ r. ⌜ ((s : Setting) (v : Seen) → v .line ≡ recOf (now (line .entry)) → laterAt s v f ≡ [] → listed r ≡ brokenAt s v f) ⌝ }
 {
-    one(forms::basic_rule(k, line, f))
+    one(forms::basic_rule(k, false, f, t))
 }
 
 // Field f of an IV.
-pub(crate) fn judge_iv(line: &[u8], f: usize) -> Broken
+pub(crate) fn judge_iv(line: &[u8], f: usize, t: &[u8]) -> Broken
+    requires { ⌜ now t ≡ fieldOf (now line) f ⌝ }
     requires { ⌜ recordOf (now line) ≡ 1 ⌝ }
     ensures { λ r. ⌜ ((s : Setting) (v : Seen) → v .line ≡ recOf (now (line .entry)) → listed r ≡ brokenAt s v f) ⌝ }
 {
     match f {
-        2 => one(forms::version_rule(line)),
-        _ => one(forms::basic_rule(IV, line, f)),
+        2 => one(forms::version_rule(t)),
+        _ => one(forms::basic_rule(IV, false, f, t)),
     }
 }
 
 // Field f of an IP.
-pub(crate) fn judge_ip(line: &[u8], place: usize, today: u32, f: usize) -> Broken
+pub(crate) fn judge_ip(line: &[u8], place: usize, today: u32, f: usize, t: &[u8]) -> Broken
+    requires { ⌜ now t ≡ fieldOf (now line) f ⌝ }
     requires { ⌜ recordOf (now line) ≡ 3 ⌝ }
     ensures { λ r. ⌜ ((s : Setting) (v : Seen) → v .line ≡ recOf (now (line .entry)) → v .place ≡ place → s .today ≡ today → listed r ≡ brokenAt s v f) ⌝ }
 {
     match f {
-        2 => one(forms::number_rule(IP, line, place)),
-        25 => one(forms::day_rule(line, today)),
-        _ => one(forms::basic_rule(IP, line, f)),
+        2 => one(forms::number_rule(IP, t, place)),
+        25 => one(forms::day_rule(t, today)),
+        _ => one(forms::basic_rule(IP, false, f, t)),
     }
 }
 
@@ -63,16 +68,18 @@ pub(crate) fn judge_in(
     day: Day,
     today: u32,
     f: usize,
+    t: &[u8],
 ) -> Broken
+    requires { ⌜ now t ≡ fieldOf (now line) f ⌝ }
     requires { ⌜ recordOf (now line) ≡ 6 ⌝ }
     ensures { λ r. ⌜ ((s : Setting) (v : Seen) → Looks today (now (book .entry)) q s → Shows place (now (line .entry)) (now (ip .entry)) v → DayIs day v → listed r ≡ brokenAt s v f) ⌝ }
 {
     match f {
-        2 => one(forms::number_rule(IN, line, place)),
-        3 => one(forms::uli_rule(IN, line, ip)),
-        5 => one(forms::date_rule(IN, line, 5, today, ip)),
-        6 => one(later::code_rule(IN, line, 6, 6, lines::field_of(line, 6), book, q, day)),
-        _ => one(forms::basic_rule(IN, line, f)),
+        2 => one(forms::number_rule(IN, t, place)),
+        3 => one(forms::uli_rule(IN, t, ip)),
+        5 => one(forms::date_rule(IN, 5, t, today, ip)),
+        6 => one(later::code_rule(IN, false, 6, t, 6, t, book, q, day)),
+        _ => one(forms::basic_rule(IN, false, f, t)),
     }
 }
 
@@ -86,15 +93,17 @@ pub(crate) fn judge_ia(
     day: Day,
     today: u32,
     f: usize,
+    t: &[u8],
 ) -> Broken
+    requires { ⌜ now t ≡ fieldOf (now line) f ⌝ }
     requires { ⌜ recordOf (now line) ≡ 7 ⌝ }
     ensures { λ r. ⌜ ((s : Setting) (v : Seen) → Looks today (now (book .entry)) q s → Shows place (now (line .entry)) (now (ip .entry)) v → DayIs day v → listed r ≡ brokenAt s v f) ⌝ }
 {
     match f {
-        2 => one(forms::number_rule(IA, line, place)),
-        3 => one(forms::uli_rule(IA, line, ip)),
-        4 => one(later::code_rule(IA, line, 4, 2, lines::field_of(line, 4), book, q, day)),
-        _ => one(forms::basic_rule(IA, line, f)),
+        2 => one(forms::number_rule(IA, t, place)),
+        3 => one(forms::uli_rule(IA, t, ip)),
+        4 => one(later::code_rule(IA, false, 4, t, 2, t, book, q, day)),
+        _ => one(forms::basic_rule(IA, false, f, t)),
     }
 }
 
@@ -110,14 +119,16 @@ pub(crate) fn judge_ie(
     day: Day,
     today: u32,
     f: usize,
+    t: &[u8],
 ) -> Broken
+    requires { ⌜ now t ≡ fieldOf (now line) f ⌝ }
     requires { ⌜ recordOf (now line) ≡ 5 ⌝ }
     ensures { λ r. ⌜ ((s : Setting) (v : Seen) → Looks today (now (book .entry)) q s → Shows place (now (line .entry)) (now (ip .entry)) v → DayIs day v → v .head ≡ recOf (now (head .entry)) → v .antigens ≡ reverse (recs (now (since .entry))) → listed r ≡ brokenAt s v f) ⌝ }
 {
     match f {
-        2 => one(forms::number_rule(IE, line, place)),
-        3 => one(forms::uli_rule(IE, line, ip)),
-        4 => later::antigen_at(line, head, since, book, q, day),
-        _ => one(forms::basic_rule(IE, line, f)),
+        2 => one(forms::number_rule(IE, t, place)),
+        3 => one(forms::uli_rule(IE, t, ip)),
+        4 => later::antigen_at(line, head, since, t, book, q, day),
+        _ => one(forms::basic_rule(IE, false, f, t)),
     }
 }

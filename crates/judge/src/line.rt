@@ -11,18 +11,27 @@ use book::Sections;
 use later::Broken;
 use later::Day;
 use later::Facts;
+use lines::II;
 ghost use mathlib.Core.Path.{_≡_};
 ghost use Prim.Native.Nat.{_+_, _*_, _^_, _≤_, _<_};
 ghost use lib.ListN.{length};
-ghost use Rattle.lines.specs.Lines.{fieldsOf};
-ghost use Rattle.lines.specs.Records.{recordOf};
+ghost use Rattle.lines.specs.Lines.{fieldsOf, fieldOf};
+ghost use Rattle.lines.specs.Records.{recordOf, recOf};
+ghost use Rattle.rules.specs.Forms.{isRelaxed};
 ghost use Rattle.rules.specs.Seen.{Setting, Seen};
 ghost use Rattle.rules.specs.Rules.{brokenAt};
 ghost use Rattle.rules.specs.Findings.{fieldsFindings};
 ghost use Rattle.judge.specs.Inside.{kept, keep, listed};
 ghost use Rattle.judge.specs.Fields.{Told};
 
-// Field f of a line of kind k.
+// Whether a line of kind k is a relaxed event; asked of an II alone.
+fn relaxed_of(k: u8, line: &[u8]) -> bool
+    ensures { λ r. ⌜ (k ≡ 4 → r ≡ isRelaxed (recOf (now (line .entry)))) ⌝ }
+{
+    if k == II { forms::relaxed(line) } else { false }
+}
+
+// Field f of a line of kind k, with text t.
 fn judge_field(
     k: u8,
     line: &[u8],
@@ -38,14 +47,18 @@ fn judge_field(
     day: Day,
     today: u32,
     facts: Facts,
+    relaxed: bool,
     f: usize,
+    t: &[u8],
 ) -> Broken
+    requires { ⌜ now t ≡ fieldOf (now line) f ⌝ }
+    requires { ⌜ (k ≡ 4 → relaxed ≡ isRelaxed (recOf (now line))) ⌝ }
     requires { ⌜ k ≡ recordOf (now line) ⌝ }
     ensures { λ r. ⌜ ((s : Setting) (v : Seen) → Told today (now (book .entry)) q place (now (line .entry)) (now (ip .entry)) (now (head .entry)) (now (since .entry)) (now (block .entry)) (now (own .entry)) (now (first .entry)) day facts s v → listed r ≡ brokenAt s v f) ⌝ }
 {
     match k {
-        lines::IV => judge_iv(line, f),
-        lines::IP => judge_ip(line, place, today, f),
+        lines::IV => judge_iv(line, f, t),
+        lines::IP => judge_ip(line, place, today, f, t),
         lines::II => judge_ii(
             line,
             ip,
@@ -58,12 +71,14 @@ fn judge_field(
             day,
             today,
             facts,
+            relaxed,
             f,
+            t,
         ),
-        lines::IE => judge_ie(line, ip, head, since, book, q, place, day, today, f),
-        lines::IN => judge_in(line, ip, book, q, place, day, today, f),
-        lines::IA => judge_ia(line, ip, book, q, place, day, today, f),
-        _ => judge_plain(k, line, f),
+        lines::IE => judge_ie(line, ip, head, since, book, q, place, day, today, f, t),
+        lines::IN => judge_in(line, ip, book, q, place, day, today, f, t),
+        lines::IA => judge_ia(line, ip, book, q, place, day, today, f, t),
+        _ => judge_plain(k, line, f, t),
     }
 }
 
@@ -93,9 +108,12 @@ pub(crate) fn judge_fields(
     ensures { λ r. ⌜ r ≤ count + 3 * length (fieldsOf (now (line .entry))) ⌝ }
 {
     let fields = lines::count_fields(line);
+    let relaxed = relaxed_of(k, line);
     let mut c = count;
+    let mut at = 0;
     let mut f = 1;
     while f <= fields {
+        let t = lines::field_from(line, at);
         let b = judge_field(
             k,
             line,
@@ -111,9 +129,12 @@ pub(crate) fn judge_fields(
             day,
             today,
             facts,
+            relaxed,
             f,
+            t,
         );
         c = emit(area, c, n, f, b);
+        at = at + t.len() + 1;
         f += 1;
     }
     c

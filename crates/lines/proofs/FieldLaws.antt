@@ -9,9 +9,10 @@ use native.Mathlib.Omega.{arith}
 use borrow.Author.Tests.{ltb-true, ltb-false}
 use lib.Dec.{eqb, ltb}
 use lib.ListN.{length, getD, take, drop, length-drop}
-use lib.Seq.{drop-drop, drop-nil, getD-drop}
+use lib.Seq.{drop-drop, drop-nil, getD-drop, length-take-le}
 use Rattle.house.specs.Text.{Text}
-use Rattle.lines.specs.Lines.{pipe, lengthen, fieldsOf, fieldOf, fieldsLen, pipeLen}
+use Rattle.lines.specs.Lines.{pipe, lengthen, fieldsOf, fieldOf, fieldsLen}
+use Rattle.lines.specs.Inside.{pipeLen}
 
 -- a byte before the fields adds none and moves none but the first
 pub lengthen-length : (b : ℕ) (fs : List Text) → length (lengthen b fs) ≡ length fs
@@ -94,15 +95,22 @@ module _ (t : Text) (at f : ℕ) (e : fieldsOf (drop at t) ≡ drop f (fieldsOf 
   next-first : take (pipeLen (drop at t)) (drop at t) ∷ fieldsOf (drop (suc (pipeLen (drop at t))) (drop at t)) ≡ drop f (fieldsOf t)
   next-first = sym (fields-first (drop at t) next-pipe) ∙ e
 
-  pub next-inside : at + pipeLen (drop at t) < length t
-  next-inside = omega (arith, next-pipe, length-drop at t)
-
-  pub next-text : take (pipeLen (drop at t)) (drop at t) ≡ fieldOf t (suc f)
+  next-here : fieldOf (drop at t) 1 ≡ take (pipeLen (drop at t)) (drop at t)
   unfolding fieldOf
-  next-text = ap (λ (fs : List Text). getD fs 0 []) next-first ∙ rw (getD-drop, add-zero)
+  next-here = ap (λ (fs : List Text). getD fs 0 []) (fields-first (drop at t) next-pipe)
 
-  pub next-fields : fieldsOf (drop (at + pipeLen (drop at t) + 1) t) ≡ drop (suc f) (fieldsOf t)
+  next-length : length (fieldOf (drop at t) 1) ≡ pipeLen (drop at t)
+  next-length = ap length next-here ∙ length-take-le (pipeLen (drop at t)) (drop at t) (omega (arith, next-pipe))
+
+  pub next-inside : at + length (fieldOf (drop at t) 1) < length t
+  next-inside = omega (arith, next-pipe, next-length, length-drop at t)
+
+  pub next-text : fieldOf (drop at t) 1 ≡ fieldOf t (suc f)
+  unfolding fieldOf
+  next-text = ap (λ (fs : List Text). getD fs 0 []) e ∙ rw (getD-drop, add-zero)
+
+  pub next-fields : fieldsOf (drop (at + length (fieldOf (drop at t) 1) + 1) t) ≡ drop (suc f) (fieldsOf t)
   next-fields =
-      let k : at + pipeLen (drop at t) + 1 ≡ at + suc (pipeLen (drop at t)) = omega arith in
+      let k : at + length (fieldOf (drop at t) 1) + 1 ≡ at + suc (pipeLen (drop at t)) = omega (arith, next-length) in
       let n : f + 1 ≡ suc f = omega arith in
       rw (k, ← drop-drop) (ap (drop 1) next-first ∙ rw (drop-drop, n))

@@ -14,7 +14,8 @@ use lib.ListN.{length, getD, take, drop, length-drop}
 use Rattle.house.specs.Text.{Text}
 use Rattle.house.proofs.Small.{clash}
 use Rattle.house.proofs.Suffix.{drop-here, drop-past}
-use Rattle.lines.specs.Lines.{pipe, textLen, fieldsOf, fieldOf, textAt, fieldText, fieldThere, linesLen, fieldsLen, fieldPosition, pipeLen}
+use Rattle.lines.specs.Lines.{pipe, textLen, fieldsOf, fieldOf, textAt, fieldText, fieldThere, linesLen, fieldsLen, fieldPosition}
+use Rattle.lines.specs.Inside.{pipeLen}
 use Rattle.lines.proofs.LineLaws.{text-le, text-after}
 use Rattle.lines.proofs.FieldLaws.{lengthen-length, fields-first, fields-none, fields-le, field-first}
 
@@ -111,6 +112,22 @@ module _ (t : Text) (f a e : ℕ) (n : f ≡ 0 → ⊥) (p : a ≡ fieldsLen (f 
       rw (is-first, fields-none (drop a t) k)
 
 pub ruleset for-field-of = (needs, field-zero, field-there, field-absent)
+
+-- field_from
+module _ (t : Text) (a e : ℕ) (q : e ≡ a + pipeLen (drop a t)) where
+  pub from-there : e < length t → take (e - a) (drop a t) ≡ fieldOf (drop a t) 1
+  unfolding fieldOf
+  from-there h =
+      let k : pipeLen (drop a t) < length (drop a t) = omega (arith, length-drop a t) in
+      rw (fields-first (drop a t) k, q, add-sub-cancel-left)
+
+  pub from-absent : length t ≤ e → [] ≡ fieldOf (drop a t) 1
+  unfolding fieldOf
+  from-absent h =
+      let k : length (drop a t) ≤ pipeLen (drop a t) = omega (arith, length-drop a t) in
+      rw (fields-none (drop a t) k)
+
+pub ruleset for-field-from = (needs, from-there, from-absent)
 
 -- field, has_field
 pub field-text : (s : Text) (n f : ℕ) (t r : Text) → t ≡ textAt s n → r ≡ fieldOf t f → r ≡ fieldText s n f

@@ -13,8 +13,8 @@ use lib.ListN.{length, getD, take, drop, length-drop}
 use lib.Seq.{length-take-le, take-take, drop-drop}
 use Rattle.house.specs.Text.{Text}
 use Rattle.house.proofs.Small.{clash}
-use Rattle.lines.specs.Lines.{lineOf, textLen, fieldsOf, fieldOf, textAt, fieldText, fieldThere, linesLen, fieldsLen, fieldPosition, pipeLen}
-use Rattle.lines.specs.Inside.{part}
+use Rattle.lines.specs.Lines.{lineOf, textLen, fieldsOf, fieldOf, textAt, fieldText, fieldThere, linesLen, fieldsLen, fieldPosition}
+use Rattle.lines.specs.Inside.{part, pipeLen}
 use Rattle.lines.proofs.LineLaws.{text-is, text-after}
 use Rattle.lines.proofs.FieldLaws.{fields-first, fields-none, fields-after, field-first}
 use Rattle.lines.proofs.PartLaws.{part-drop}

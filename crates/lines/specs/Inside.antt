@@ -19,6 +19,11 @@ part s a e = take (e - a) (drop a s)
 unfoldable pub whole : Text → Bool
 whole s = all (λ (l : Line). l .ended) (linesOf s)
 
+-- how many bytes stand before the first pipe, or all
+unfoldable pub pipeLen : Text → ℕ
+pipeLen [] = 0
+pipeLen (b ∷ t) = cond (eqb b pipe) 0 (suc (pipeLen t))
+
 -- the lowest of causes 4 to 6 at a record of kind k with n fields that follows one of kind p, 0 for none
 unfoldable pub kindCause : ℕ → ℕ → ℕ → ℕ
 kindCause p k n = cond (eqb k 0) 4 (cond (not (eqb n (countOf k))) 5 (cond (not (follows p k)) 6 0))

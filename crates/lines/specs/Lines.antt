@@ -93,11 +93,6 @@ fieldsOf (b ∷ s) = cond (eqb b pipe) ([] ∷ fieldsOf s) (lengthen b (fieldsOf
 unfoldable pub fieldOf : Text → ℕ → Text
 fieldOf t f = getD ([] ∷ fieldsOf t) f []
 
--- how many bytes stand before the first pipe, or all
-unfoldable pub pipeLen : Text → ℕ
-pipeLen [] = 0
-pipeLen (b ∷ t) = cond (eqb b pipe) 0 (suc (pipeLen t))
-
 -- the text of line n, counted from 1
 unfoldable pub textAt : Text → ℕ → Text
 textAt s zero = []

@@ -5,7 +5,8 @@ use crate::line::line_text;
 ghost use mathlib.Core.Path.{_≡_};
 ghost use Prim.Native.Nat.{_+_};
 ghost use lib.ListN.{drop, length};
-ghost use Rattle.lines.specs.Lines.{lineOf, fieldsOf, fieldOf, fieldText, fieldThere, fieldsLen, fieldPosition, pipeLen};
+ghost use Rattle.lines.specs.Lines.{lineOf, fieldsOf, fieldOf, fieldText, fieldThere, fieldsLen, fieldPosition};
+ghost use Rattle.lines.specs.Inside.{pipeLen};
 
 // How many fields a line's text has.
 pub fn count_fields(text: &[u8]) -> usize
@@ -41,7 +42,7 @@ fn field_start(text: &[u8], f: usize) -> usize
 }
 
 // Where the first pipe from a position on stands, or the text's end.
-pub fn pipe_from(text: &[u8], at: usize) -> usize
+fn pipe_from(text: &[u8], at: usize) -> usize
     ensures { λ r. ⌜ r ≡ at + pipeLen (drop at (now (text .entry))) ⌝ }
 {
     let mut i = at;
@@ -65,6 +66,17 @@ pub fn field_of(text: &[u8], f: usize) -> &[u8]
     let end = pipe_from(text, start);
     if end < text.len() {
         return &text[start..end];
+    }
+    &text[..0]
+}
+
+// The field that starts at a position of a line's text; empty where no pipe ends it.
+pub fn field_from(text: &[u8], at: usize) -> &[u8]
+    ensures { λ r. ⌜ now r ≡ fieldOf (drop at (now (text .entry))) 1 ⌝ }
+{
+    let stop = pipe_from(text, at);
+    if stop < text.len() {
+        return &text[at..stop];
     }
     &text[..0]
 }

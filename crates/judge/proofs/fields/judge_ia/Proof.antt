@@ -19,5 +19,4 @@ judge-ia-spec =
     (λ c. search for-judge-ia)
     (λ c. search for-judge-ia)
     (λ c. search for-judge-ia)
-    (λ c. search for-judge-ia)
     (λ c. search for-judge-ia))

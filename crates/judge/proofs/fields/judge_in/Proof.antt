@@ -22,5 +22,4 @@ judge-in-spec =
     (λ c. search for-judge-in)
     (λ c. search for-judge-in)
     (λ c. search for-judge-in)
-    (λ c. search for-judge-in)
     (λ c. search for-judge-in))

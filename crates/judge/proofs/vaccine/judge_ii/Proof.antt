@@ -39,5 +39,4 @@ judge-ii-spec =
     (λ c. search for-judge-ii)
     (λ c. search for-judge-ii)
     (λ c. search for-judge-ii)
-    (λ c. search for-judge-ii)
     (λ c. search for-judge-ii))

@@ -1,6 +1,6 @@
 -- `lines::fields::pipe_from` meets its contract.
 -- Assumes nothing.
-use Rattle.lines.specs.Lines.{pipeLen}
+use Rattle.lines.specs.Inside.{pipeLen}
 use Rattle.lines.proofs.FieldNeeds.{for-pipe-from}
 use Prim.Native.Nat.{_-_, _+_}
 use mathlib.Core.Path.{_≡_}
