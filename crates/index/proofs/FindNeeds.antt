@@ -17,22 +17,22 @@ use Rattle.events.specs.Events.{eventAt}
 use Rattle.index.specs.Firsts.{standing, foundBefore}
 
 -- stands
-module _ (f e : Text) (b p at : ℕ) (i : at ≡ p) (k : Text) (j : k ≡ eventAt f at) (o : Order) (c : o ≡ orderOf k e) where
-  by-key : standing f e b p ≡ byOrder o Less (cond (ltb at b) Same More) More
+module _ (f e : Text) (b p at : ℕ) (i : at ≡ p) (o : Order) (c : o ≡ orderOf (eventAt f at) e) where
+  by-order : standing f e b p ≡ byOrder o Less (cond (ltb at b) Same More) More
   unfolding standing
-  by-key = rw (c, j, i)
+  by-order = rw (c, i)
 
   pub stands-less : o ≡ Less → Less ≡ standing f e b p
-  stands-less z = sym (by-key ∙ rw z)
+  stands-less z = sym (by-order ∙ rw z)
 
   pub stands-more : o ≡ More → More ≡ standing f e b p
-  stands-more z = sym (by-key ∙ rw z)
+  stands-more z = sym (by-order ∙ rw z)
 
   pub stands-here : o ≡ Same → at < b → Same ≡ standing f e b p
-  stands-here z h = sym (by-key ∙ rw (z, lt-ltb at b h))
+  stands-here z h = sym (by-order ∙ rw (z, lt-ltb at b h))
 
   pub stands-past : o ≡ Same → b ≤ at → More ≡ standing f e b p
-  stands-past z h = sym (by-key ∙ rw (z, le-ltb at b h))
+  stands-past z h = sym (by-order ∙ rw (z, le-ltb at b h))
 
 pub ruleset for-stands = (needs, stands-less, stands-more, stands-here, stands-past)
 

@@ -27,9 +27,9 @@ text-there f at q is = at-text f at q is
 pub ruleset for-line-text = (needs, at-from, at-in, text-none, text-there)
 
 -- is_typed
-pub typed-is : (f : Text) (letter p at : ℕ) (t g : Text) (r : Bool) → at ≡ p → t ≡ lineOf (drop at f) .text → g ≡ fieldOf t 4 → r ≡ same g (letter ∷ []) → r ≡ isTyped f letter p
+pub typed-is : (f : Text) (letter p at : ℕ) (g : Text) (r : Bool) → at ≡ p → g ≡ fieldOf (lineOf (drop at f) .text) 4 → r ≡ same g (letter ∷ []) → r ≡ isTyped f letter p
 unfolding isTyped
-typed-is f letter p at t g r i a b c = c ∙ rw (b, a, i)
+typed-is f letter p at g r i a c = c ∙ rw (a, i)
 
 pub ruleset for-is-typed = (needs, typed-is)
 

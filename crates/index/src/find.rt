@@ -9,8 +9,7 @@ fn stands(file: &[u8], p: u32, key: [u8; 37], b: usize) -> Order
     ensures { λ r. ⌜ r ≡ standing (now (file .entry)) key b p ⌝ }
 {
     let at = wide(p);
-    let k = events::key_at(file, at);
-    let o = house::compare(&k, &key);
+    let o = events::order_to(file, at, key);
     match o {
         Order::Less => Order::Less,
         Order::More => Order::More,

@@ -1,5 +1,4 @@
 // The parts of an index by submission type.
-use crate::line::line_text;
 use crate::line::wide;
 ghost use mathlib.Core.Path.{_≡_};
 ghost use lib.ListN.{length, set};
@@ -9,9 +8,9 @@ ghost use Rattle.index.specs.Firsts.{over, isTyped, partOf};
 fn is_typed(file: &[u8], p: u32, letter: u8) -> bool
     ensures { λ r. ⌜ r ≡ isTyped (now (file .entry)) letter p ⌝ }
 {
-    let text = line_text(file, wide(p));
+    let field = lines::field_at(file, wide(p), 4);
     let one = [letter];
-    house::same(lines::field_of(text, 4), &one)
+    house::same(field, &one)
 }
 
 // How many of these places have lines of a type.

@@ -15,7 +15,7 @@ use lib.Seq.{drop-drop, drop-nil}
 use Rattle.house.specs.Text.{Text}
 use Rattle.house.proofs.Suffix.{drop-here, drop-past}
 use Rattle.lines.specs.declared.LineAt.{LineAt}
-use Rattle.lines.specs.Lines.{LF, CR, lfNext, endingOf, byEnding, linesOf, lineOf, textLen, lineLen, lineAt, LineIs, textAt, linesLen}
+use Rattle.lines.specs.Lines.{LF, CR, lfNext, endingOf, linesOf, lineOf, textLen, lineLen, lineAt, LineIs, textAt, linesLen}
 use Rattle.lines.proofs.LineLaws.{ending-plain, text-more, text-stop, text-nil, ended-is, line-is, at-next, at-text, left-falls, text-after}
 
 -- ending

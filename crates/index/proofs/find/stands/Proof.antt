@@ -16,7 +16,4 @@ stands-spec =
     (λ c. search for-stands)
     (λ c. search for-stands)
     (λ c. search for-stands)
-    (λ c. search for-stands)
-    (λ c. search for-stands)
-    (λ c. search for-stands)
     (λ c. search for-stands))

@@ -12,5 +12,4 @@ is-typed-spec =
     (λ c. search for-is-typed)
     (λ c. search for-is-typed)
     (λ c. search for-is-typed)
-    (λ c. search for-is-typed)
     (λ c. search for-is-typed))
