@@ -10,6 +10,7 @@ pub use fields::field;
 pub use fields::field_at;
 pub use fields::field_of;
 pub use fields::field_position;
+pub use fields::field_start;
 pub use fields::has_field;
 pub use fields::pipe_from;
 pub use kinds::IA;
