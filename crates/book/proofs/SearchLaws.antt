@@ -23,7 +23,7 @@ use Rattle.book.specs.declared.Sections.{Sections}
 use Rattle.book.specs.declared.Found.the-variants.{At, Absent}
 use Rattle.book.specs.Book.{firstWidth, secondWidth, codeWidth, bodyWidth, filled, codeText}
 use Rattle.book.specs.LookUp.{sectionStart, countIn, placeOf, orderAt, foundAt, fits, foundIn}
-use Rattle.book.specs.Inside.{codePadded}
+use Rattle.book.specs.Inside.{codePadded, codeOrder}
 use Rattle.book.proofs.WidthLaws.{code-parts, body-parts}
 
 -- Sections::start
@@ -68,14 +68,18 @@ code-text k a b h =
     let p = both (leb (length a) (firstWidth k)) (leb (length b) (secondWidth k)) h in
     rw (filled-pad (firstWidth k) a (leb-true _ _ (p .0)), filled-pad (secondWidth k) b (leb-true _ _ (p .1)))
 
+-- widths_of
+module _ (k w : ℕ) (ew : w ≡ bodyWidth k) where
+  pub entry-is : w + 1 ≡ bodyWidth k + 1
+  entry-is = rw ew
+
+  pub codes-in : (p q : ℕ) → p ≡ firstWidth k → q ≡ secondWidth k → p + q < w + 1
+  codes-in p q ep eq = omega (arith, code-parts k, body-parts k)
+
+pub ruleset for-widths-of = (needs, entry-is, codes-in)
+
 -- code_order
-module _ (s : Text) (at k p q : ℕ) (hp : p ≡ firstWidth k) (hq : q ≡ secondWidth k) (l : at + codeWidth k ≤ length s) where
-  pub first-in : at + p ≤ length s
-  first-in = omega (arith, code-parts k)
-
-  pub second-in : at + p + q ≤ length s
-  second-in = omega (arith, code-parts k)
-
+module _ (s : Text) (at p q : ℕ) (l : at + p + q ≤ length s) where
   -- a part of the book, as the code lends it, against a padded text
   part : (i w : ℕ) (x : Text) → i + w ≤ length s → orderOf (take (i + w - i) (drop i s)) (pad (length (take (i + w - i) (drop i s))) x) ≡ orderOf (take w (drop i s)) (pad w x)
   part i w x h =
@@ -84,28 +88,27 @@ module _ (s : Text) (at k p q : ℕ) (hp : p ≡ firstWidth k) (hq : q ≡ secon
       rw (n, m)
 
   module _ (a b : Text) where
-    whole : orderOf (take (codeWidth k) (drop at s)) (codePadded k a b) ≡ orElse (orderOf (take p (drop at s)) (pad p a)) (orderOf (take q (drop (at + p) s)) (pad q b))
-    unfolding codePadded
+    whole : codeOrder s at p q a b ≡ orElse (orderOf (take p (drop at s)) (pad p a)) (orderOf (take q (drop (at + p) s)) (pad q b))
+    unfolding codeOrder
     whole =
-        let w : codeWidth k ≡ p + q = omega (arith, code-parts k) in
         let d : drop p (drop at s) ≡ drop (at + p) s = drop-drop p at s in
-        let n : length (take p (drop at s)) ≡ length (pad p a) = length-take-le p (drop at s) (omega (arith, first-in, length-drop at s)) ∙ sym (length-pad p a) in
-        rw (w, take-add p q (drop at s), d, ← hp, ← hq) (order-append (take p (drop at s)) (pad p a) (take q (drop (at + p) s)) (pad q b) n)
+        let n : length (take p (drop at s)) ≡ length (pad p a) = length-take-le p (drop at s) (omega (arith, length-drop at s)) ∙ sym (length-pad p a) in
+        rw (take-add p q (drop at s), d) (order-append (take p (drop at s)) (pad p a) (take q (drop (at + p) s)) (pad q b) n)
 
     module _ (o : Order) (e : o ≡ orderOf (take (at + p - at) (drop at s)) (pad (length (take (at + p - at) (drop at s))) a)) where
-      first-is : (z : Order) → o ≡ z → orderOf (take (codeWidth k) (drop at s)) (codePadded k a b) ≡ orElse z (orderOf (take q (drop (at + p) s)) (pad q b))
-      first-is z h = whole ∙ ap (λ (y : Order). orElse y (orderOf (take q (drop (at + p) s)) (pad q b))) (sym (e ∙ part at p a first-in) ∙ h)
+      first-is : (z : Order) → o ≡ z → codeOrder s at p q a b ≡ orElse z (orderOf (take q (drop (at + p) s)) (pad q b))
+      first-is z h = whole ∙ ap (λ (y : Order). orElse y (orderOf (take q (drop (at + p) s)) (pad q b))) (sym (e ∙ part at p a (omega arith)) ∙ h)
 
-      pub order-less : o ≡ Less → Less ≡ orderOf (take (codeWidth k) (drop at s)) (codePadded k a b)
+      pub order-less : o ≡ Less → Less ≡ codeOrder s at p q a b
       order-less h = sym (first-is Less h)
 
-      pub order-more : o ≡ More → More ≡ orderOf (take (codeWidth k) (drop at s)) (codePadded k a b)
+      pub order-more : o ≡ More → More ≡ codeOrder s at p q a b
       order-more h = sym (first-is More h)
 
-      pub order-same : (r : Order) → o ≡ Same → r ≡ orderOf (take (at + p + q - (at + p)) (drop (at + p) s)) (pad (length (take (at + p + q - (at + p)) (drop (at + p) s))) b) → r ≡ orderOf (take (codeWidth k) (drop at s)) (codePadded k a b)
-      order-same r h f = f ∙ part (at + p) q b second-in ∙ sym (first-is Same h)
+      pub order-same : (r : Order) → o ≡ Same → r ≡ orderOf (take (at + p + q - (at + p)) (drop (at + p) s)) (pad (length (take (at + p + q - (at + p)) (drop (at + p) s))) b) → r ≡ codeOrder s at p q a b
+      order-same r h f = f ∙ part (at + p) q b l ∙ sym (first-is Same h)
 
-pub ruleset for-code-order = (needs, first-in, second-in, order-less, order-more, order-same)
+pub ruleset for-code-order = (needs, order-less, order-more, order-same)
 
 -- section_count
 module _ (s : Text) (q : Sections) (k from to : ℕ) (ef : from ≡ sectionStart q k) (et : to ≡ sectionStart q (k + 1)) where
@@ -117,49 +120,39 @@ module _ (s : Text) (q : Sections) (k from to : ℕ) (ef : from ≡ sectionStart
   unfolding countIn
   count-out h l = rw (← ef, ← et, le-leb from to h, lt-leb to (length s) l)
 
-  module _ (w : ℕ) (ew : w ≡ bodyWidth k) (h : from ≤ to) (l : to ≤ length s) where
-    pub count-is : (to - from) / (w + 1) ≡ countIn s q k
+  module _ (w : ℕ) (ew : w ≡ bodyWidth k + 1) (h : from ≤ to) (l : to ≤ length s) where
+    pub count-is : (to - from) / w ≡ countIn s q k
     unfolding countIn
     count-is = rw (← ef, ← et, le-leb from to h, le-leb to (length s) l, ew)
 
-    pub count-in : (to - from) / (w + 1) * (bodyWidth k + 1) ≤ length s - sectionStart q k
+    pub count-in : (to - from) / w * w ≤ length s - sectionStart q k
     count-in =
-        let m : (to - from) / (w + 1) * (w + 1) ≤ to - from = div-mul-le-self (to - from) (w + 1) in
-        let e : (to - from) / (w + 1) * (bodyWidth k + 1) ≡ (to - from) / (w + 1) * (w + 1) = ap (λ (y : ℕ). (to - from) / (w + 1) * (y + 1)) (sym ew) in
+        let m : (to - from) / w * w ≤ to - from = div-mul-le-self (to - from) w in
         omega arith
 
 pub ruleset for-section-count = (needs, count-back, count-out, count-is, count-in)
 
 -- probe
-module _ (s : Text) (from n i k w : ℕ) (h : i < n) (g : n * (bodyWidth k + 1) ≤ length s - from) (ew : w ≡ bodyWidth k) where
-  probe-in : from + i * (w + 1) + (w + 1) ≤ length s
+module _ (s : Text) (from n i w p q : ℕ) (h : i < n) (g : n * w ≤ length s - from) (v : p + q < w) where
+  probe-in : from + i * w + w ≤ length s
   probe-in =
-      let a : suc i * (bodyWidth k + 1) ≤ n * (bodyWidth k + 1) = mul-le-mul-right (bodyWidth k + 1) (omega arith) in
-      let b : i * (w + 1) ≡ i * (bodyWidth k + 1) = ap (λ (y : ℕ). i * (y + 1)) ew in
-      omega (arith, suc-mul i (bodyWidth k + 1))
-
-  pub probe-at : from + i * (w + 1) ≡ placeOf k from i
-  unfolding placeOf
-  probe-at = ap (λ (y : ℕ). from + i * (y + 1)) ew
+      let a : suc i * w ≤ n * w = mul-le-mul-right w (omega arith) in
+      omega (arith, suc-mul i w)
 
   module _ (z : length s < 18446744073709551616) where
-    pub probe-mul : i * (w + 1) < 18446744073709551616
+    pub probe-mul : i * w < 18446744073709551616
     probe-mul = omega (arith, probe-in)
 
-    pub probe-add : from + i * (w + 1) < 18446744073709551616
+    pub probe-add : from + i * w < 18446744073709551616
     probe-add = omega (arith, probe-in)
 
-    pub probe-body : from + i * (w + 1) + 1 < 18446744073709551616
+    pub probe-body : from + i * w + 1 < 18446744073709551616
     probe-body = omega (arith, probe-in)
 
-  pub probe-code : from + i * (w + 1) + 1 + codeWidth k ≤ length s
-  probe-code = omega (arith, probe-in, body-parts k)
+  pub probe-code : from + i * w + 1 + p + q ≤ length s
+  probe-code = omega (arith, probe-in)
 
-  pub probe-order : (x : Text) (o : Order) → o ≡ orderOf (take (codeWidth k) (drop (from + i * (w + 1) + 1) s)) x → o ≡ orderAt s k from x i
-  unfolding orderAt
-  probe-order x o e = e ∙ ap (λ (y : ℕ). orderOf (take (codeWidth k) (drop (y + 1) s)) x) probe-at
-
-pub ruleset for-probe = (needs, probe-at, probe-mul, probe-add, probe-body, probe-code, probe-order)
+pub ruleset for-probe = (needs, probe-mul, probe-add, probe-body, probe-code)
 
 -- seek: what is left to halve
 abbrev pub Seeks : Text → ℕ → ℕ → ℕ → Text → ℕ → ℕ → Type 0
@@ -169,30 +162,36 @@ module _ (s : Text) (k from n : ℕ) where
   pub seek-start : (x : Text) → Seeks s k from n x 0 n
   seek-start x = halves-start (orderAt s k from x) (foundAt k from) Absent n
 
-  pub seek-bound : (q : Sections) → from ≡ sectionStart q k → n * (bodyWidth k + 1) ≤ length s - sectionStart q k → n * (bodyWidth k + 1) ≤ length s - from
-  seek-bound q e h = rw e h
+  module _ (w : ℕ) where
+    pub seek-bound : (q : Sections) → from ≡ sectionStart q k → n * w ≤ length s - sectionStart q k → n * w ≤ length s - from
+    seek-bound q e h = rw e h
 
-  module _ (lo hi : ℕ) where
-    module _ (x : Text) (inv : Seeks s k from n x lo hi) (h : lo < hi) (o : Order) (e : o ≡ orderAt s k from x (lo + (hi - lo) / 2)) where
-      pub seek-up : o ≡ Less → Seeks s k from n x (lo + (hi - lo) / 2 + 1) hi
-      seek-up z = turn-up (orderAt s k from x) (foundAt k from) Absent (halve (orderAt s k from x) (foundAt k from) Absent n 0 n) lo hi inv h o (sym e) z
+  module _ (lo hi : ℕ) (a b : Text) (inv : Seeks s k from n (codePadded k a b) lo hi) where
+    module _ (h : lo < hi) (o : Order) (w p q : ℕ) (e : o ≡ codeOrder s (from + (lo + (hi - lo) / 2) * w + 1) p q a b) (ew : w ≡ bodyWidth k + 1) (ep : p ≡ firstWidth k) (eq : q ≡ secondWidth k) where
+      probed : orderAt s k from (codePadded k a b) (lo + (hi - lo) / 2) ≡ o
+      unfolding orderAt placeOf codePadded codeOrder codeWidth
+      probed = rw (e, ew, ep, eq)
 
-      pub seek-down : o ≡ More → Seeks s k from n x lo (lo + (hi - lo) / 2)
-      seek-down z = turn-down (orderAt s k from x) (foundAt k from) Absent (halve (orderAt s k from x) (foundAt k from) Absent n 0 n) lo hi inv h o (sym e) z
+      pub seek-up : o ≡ Less → Seeks s k from n (codePadded k a b) (lo + (hi - lo) / 2 + 1) hi
+      seek-up z = turn-up (orderAt s k from (codePadded k a b)) (foundAt k from) Absent (halve (orderAt s k from (codePadded k a b)) (foundAt k from) Absent n 0 n) lo hi inv h o probed z
 
-    module _ (q : Sections) (a b : Text) (inv : Seeks s k from n (codePadded k a b) lo hi) (ef : from ≡ sectionStart q k) (en : n ≡ countIn s q k) (g : k ≤ 8) (f : fits k a b ≡ true) where
-      sought : halve (orderAt s k from (codePadded k a b)) (foundAt k from) Absent n 0 n ≡ foundIn s q k a b
+      pub seek-down : o ≡ More → Seeks s k from n (codePadded k a b) lo (lo + (hi - lo) / 2)
+      seek-down z = turn-down (orderAt s k from (codePadded k a b)) (foundAt k from) Absent (halve (orderAt s k from (codePadded k a b)) (foundAt k from) Absent n 0 n) lo hi inv h o probed z
+
+    module _ (j : Sections) (ef : from ≡ sectionStart j k) (en : n ≡ countIn s j k) (g : k ≤ 8) (f : fits k a b ≡ true) where
+      sought : halve (orderAt s k from (codePadded k a b)) (foundAt k from) Absent n 0 n ≡ foundIn s j k a b
       unfolding foundIn
       sought = rw (le-leb k 8 g, f, ef, en, code-text k a b f)
 
-      pub seek-end : hi ≤ lo → Absent ≡ foundIn s q k a b
+      pub seek-end : hi ≤ lo → Absent ≡ foundIn s j k a b
       seek-end h = halves-end (orderAt s k from (codePadded k a b)) (foundAt k from) Absent (halve (orderAt s k from (codePadded k a b)) (foundAt k from) Absent n 0 n) lo hi inv h ∙ sought
 
-      pub seek-hit : lo < hi → (o : Order) (at : ℕ) → o ≡ orderAt s k from (codePadded k a b) (lo + (hi - lo) / 2) → at ≡ placeOf k from (lo + (hi - lo) / 2) → o ≡ Same → At (record { at = at }) ≡ foundIn s q k a b
-      unfolding foundAt
-      seek-hit h o at e p z =
-          ap (λ (y : ℕ). At (record { at = y })) p
-          ∙ turn-hit (orderAt s k from (codePadded k a b)) (foundAt k from) Absent (halve (orderAt s k from (codePadded k a b)) (foundAt k from) Absent n 0 n) lo hi inv h o (sym e) z
+      pub seek-hit : (h : lo < hi) (o : Order) (at w p q : ℕ) → o ≡ codeOrder s (from + (lo + (hi - lo) / 2) * w + 1) p q a b → at ≡ from + (lo + (hi - lo) / 2) * w → w ≡ bodyWidth k + 1 → p ≡ firstWidth k → q ≡ secondWidth k → o ≡ Same → At (record { at = at }) ≡ foundIn s j k a b
+      unfolding foundAt placeOf
+      seek-hit h o at w p q e v ew ep eq z =
+          let r : at ≡ from + (lo + (hi - lo) / 2) * (bodyWidth k + 1) = v ∙ ap (λ (y : ℕ). from + (lo + (hi - lo) / 2) * y) ew in
+          ap (λ (y : ℕ). At (record { at = y })) r
+          ∙ turn-hit (orderAt s k from (codePadded k a b)) (foundAt k from) Absent (halve (orderAt s k from (codePadded k a b)) (foundAt k from) Absent n 0 n) lo hi inv h o (probed h o w p q e ew ep eq) z
           ∙ sought
 
 pub ruleset for-seek = (needs, seek-start, seek-bound, seek-up, seek-down, seek-end, seek-hit)

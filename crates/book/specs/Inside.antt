@@ -6,7 +6,8 @@ use mathlib.Core.Bool.{Bool, true, cond, _&&_}
 use mathlib.Core.List.{List, [], _∷_, _++_}
 use lib.ListN.{length, take, drop}
 use lib.Dec.{eqb, leb}
-use Rattle.house.specs.Text.{Text, below, number, pad}
+use Rattle.house.specs.Text.{Text, below, number, pad, orderOf}
+use Rattle.house.specs.declared.Order.{Order}
 use Rattle.house.specs.Dates.{isDate, isEnd}
 use Rattle.book.specs.Book.{vaccine, firstWidth, secondWidth, startWidth, codeWidth, bodyWidth, Entry, entryOf, entries, codeOf, codeForm, bodyForm, entryForm, above, bytesBefore}
 
@@ -50,3 +51,7 @@ bodyHolds d k t = codeForm k (take (codeWidth k) t) && datesHold d k (drop (code
 -- a code of texts that fit
 unfoldable pub codePadded : ℕ → Text → Text → Text
 codePadded k a b = pad (firstWidth k) a ++ pad (secondWidth k) b
+
+-- how the code of p bytes at a place, and the one of q behind it, stand to two texts, padded
+unfoldable pub codeOrder : Text → ℕ → ℕ → ℕ → Text → Text → Order
+codeOrder s at p q a b = orderOf (take (p + q) (drop at s)) (pad p a ++ pad q b)

@@ -9,11 +9,10 @@ use house::Order;
 ghost use mathlib.Core.Path.{_≡_};
 ghost use mathlib.Core.Bool.{true};
 ghost use Prim.Native.Nat.{_<_, _≤_, _+_, _-_, _*_};
-ghost use lib.ListN.{length, take, drop};
-ghost use Rattle.house.specs.Text.{orderOf};
-ghost use Rattle.book.specs.Book.{codeWidth, bodyWidth};
-ghost use Rattle.book.specs.LookUp.{sectionStart, countIn, placeOf, orderAt, fits, foundIn};
-ghost use Rattle.book.specs.Inside.{codePadded};
+ghost use lib.ListN.{length};
+ghost use Rattle.book.specs.Book.{firstWidth, secondWidth, bodyWidth};
+ghost use Rattle.book.specs.LookUp.{sectionStart, countIn, fits, foundIn};
+ghost use Rattle.book.specs.Inside.{codeOrder};
 
 impl Sections {
     // Where the entries of kind k start, and those of the kind before it end.
@@ -47,13 +46,32 @@ fn codes_fit(k: u8, a: &[u8], b: &[u8]) -> bool
     true
 }
 
-// How the code at a place stands to a code, or to two, padded.
-fn code_order(book: &[u8], at: usize, k: u8, a: &[u8], b: &[u8]) -> Order
-    requires { ⌜ at + codeWidth k ≤ length (now book) ⌝ }
-    ensures { λ r. ⌜ r ≡ orderOf (take (codeWidth k) (drop at (now (book .entry)))) (codePadded k (now (a .entry)) (now (b .entry))) ⌝ }
+// What the entries of a kind have in common: the bytes of each, of its code or the first of two, and of the second.
+struct Widths {
+    entry: usize,
+    first: usize,
+    second: usize,
+}
+
+// The widths of a kind.
+fn widths_of(k: u8) -> Widths
+    ensures { λ r. ⌜ r .entry ≡ bodyWidth k + 1 ⌝ }
+    ensures { λ r. ⌜ r .first ≡ firstWidth k ⌝ }
+    ensures { λ r. ⌜ r .second ≡ secondWidth k ⌝ }
+    ensures { λ r. ⌜ r .first + r .second < r .entry ⌝ }
 {
-    let p = first_width(k);
-    let q = second_width(k);
+    Widths {
+        entry: body_width(k) + 1,
+        first: first_width(k),
+        second: second_width(k),
+    }
+}
+
+// How the code of p bytes at a place, and the one of q behind it, stand to two texts, padded.
+fn code_order(book: &[u8], at: usize, p: usize, q: usize, a: &[u8], b: &[u8]) -> Order
+    requires { ⌜ at + p + q ≤ length (now book) ⌝ }
+    ensures { λ r. ⌜ r ≡ codeOrder (now (book .entry)) at p q (now (a .entry)) (now (b .entry)) ⌝ }
+{
     let m = at + p;
     let e = m + q;
     let o = house::compare_padded(&book[at..m], a);
@@ -64,15 +82,15 @@ fn code_order(book: &[u8], at: usize, k: u8, a: &[u8], b: &[u8]) -> Order
     }
 }
 
-// How many whole entries of a kind lie in its section, and in the book.
-fn section_count(book: &[u8], sections: Sections, k: u8) -> usize
+// How many whole entries of a kind lie in its section, and in the book; each has w bytes.
+fn section_count(book: &[u8], sections: Sections, k: u8, w: usize) -> usize
     requires { ⌜ k ≤ 8 ⌝ }
+    requires { ⌜ w ≡ bodyWidth k + 1 ⌝ }
     ensures { λ r. ⌜ r ≡ countIn (now (book .entry)) sections k ⌝ }
-    ensures { λ r. ⌜ r * (bodyWidth k + 1) ≤ length (now (book .entry)) - sectionStart sections k ⌝ }
+    ensures { λ r. ⌜ r * w ≤ length (now (book .entry)) - sectionStart sections k ⌝ }
 {
     let from = sections.start(k);
     let to = sections.start(k + 1);
-    let w = body_width(k) + 1;
     if to < from {
         return 0;
     }
@@ -88,18 +106,18 @@ struct Probed {
     order: Order,
 }
 
-// Reads entry i of the n of kind k that start at `from`.
-fn probe(book: &[u8], from: usize, n: usize, i: usize, k: u8, a: &[u8], b: &[u8]) -> Probed
+// Reads entry i of the n of these widths that start at `from`.
+fn probe(book: &[u8], from: usize, n: usize, i: usize, w: Widths, a: &[u8], b: &[u8]) -> Probed
     requires { ⌜ i < n ⌝ }
-    requires { ⌜ n * (bodyWidth k + 1) ≤ length (now book) - from ⌝ }
-    ensures { λ r. ⌜ r .at ≡ placeOf k from i ⌝ }
-    ensures { λ r. ⌜ r .order ≡ orderAt (now (book .entry)) k from (codePadded k (now (a .entry)) (now (b .entry))) i ⌝ }
+    requires { ⌜ n * w .entry ≤ length (now book) - from ⌝ }
+    requires { ⌜ w .first + w .second < w .entry ⌝ }
+    ensures { λ r. ⌜ r .at ≡ from + i * w .entry ⌝ }
+    ensures { λ r. ⌜ r .order ≡ codeOrder (now (book .entry)) (from + i * w .entry + 1) (w .first) (w .second) (now (a .entry)) (now (b .entry)) ⌝ }
 {
-    let w = body_width(k) + 1;
-    let at = from + i * w;
+    let at = from + i * w.entry;
     Probed {
         at,
-        order: code_order(book, at + 1, k, a, b),
+        order: code_order(book, at + 1, w.first, w.second, a, b),
     }
 }
 
@@ -110,12 +128,13 @@ fn seek(book: &[u8], sections: Sections, kind: u8, a: &[u8], b: &[u8]) -> Found
     ensures { λ r. ⌜ r ≡ foundIn (now (book .entry)) sections kind (now (a .entry)) (now (b .entry)) ⌝ }
 {
     let from = sections.start(kind);
-    let n = section_count(book, sections, kind);
+    let w = widths_of(kind);
+    let n = section_count(book, sections, kind, w.entry);
     let mut lo = 0;
     let mut hi = n;
     while lo < hi {
         let mid = lo + (hi - lo) / 2;
-        let p = probe(book, from, n, mid, kind, a, b);
+        let p = probe(book, from, n, mid, w, a, b);
         let o = p.order;
         match o {
             Order::Less => {

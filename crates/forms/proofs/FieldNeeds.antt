@@ -1,18 +1,20 @@
 -- What each need of the functions on a line's fields asks.
 -- Assumes nothing.
-use mathlib.Core.Path.{_≡_, refl, sym, _∙_}
+use mathlib.Core.Path.{_≡_, refl, sym, ap, _∙_}
 use mathlib.Core.Bool.{Bool, true, false, not, cond, _&&_, _||_, and-false}
 use mathlib.Core.List.{List, [], _∷_}
-use Prim.Native.Nat.{ℕ, zero, suc, _+_, _≤_, _<_}
+use Prim.Native.Nat.{ℕ, zero, suc, _+_, _-_, _≤_, _<_}
 use native.Mathlib.Omega.{arith}
 use borrow.Author.Needs.{needs}
 use borrow.Author.Tests.{eq-eqb, ne-eqb, le-leb}
 use lib.Dec.{eqb}
-use lib.ListN.{length}
+use lib.ListN.{length, getD, take, drop, length-drop}
+use lib.Seq.{getD-drop, take-all}
 use Rattle.house.specs.Text.{Text, any, within, isEmpty, same}
 use Rattle.house.proofs.Small.{Three, lt, eq, gt, three}
-use Rattle.lines.specs.Lines.{fieldsOf, fieldOf}
+use Rattle.lines.specs.Lines.{fieldsOf, fieldOf, fieldsLen}
 use Rattle.lines.specs.Records.{Rec, recOf}
+use Rattle.lines.proofs.FieldLaws.{fields-after, fields-le}
 use Rattle.rules.specs.Forms.{anything, table, formOf, isJudged, isRelaxed, relaxedBy, isSound, isGiven}
 use Rattle.texts.proofs.TextLaws.{within-yes, within-low, within-high}
 use Rattle.forms.specs.Leaves.{refusedBy, optionalIn, lowestIn, soundAs}
@@ -119,41 +121,64 @@ module _ (k f : ℕ) where
 
 pub ruleset for-is-judged = (needs, judged-iv, judged-ih, judged-ie, judged-in, judged-ia, judged-if, judged-ip, judged-ii, judged-25, judged-7, judged-none)
 
--- is_refused, relaxed
-module _ (t w : Text) where
-  module _ (h : length t ≡ 0) where
-    pub refused-none : length w ≡ 0 → false ≡ refusedBy t w
-    unfolding refusedBy
-    refused-none k = simp (empty-true t h, empty-true w k)
+-- behind: a text's rest, and its fields
+module _ (t : Text) (f s : ℕ) (e : s ≡ fieldsLen f t) where
+  pub behind-in : s ≤ length t
+  behind-in = rw e (fields-le f t)
 
-    pub refused-why : (length w ≡ 0 → ⊥) → true ≡ refusedBy t w
+  pub behind-is : take (length t - s) (drop s t) ≡ drop (fieldsLen f t) t
+  behind-is = rw (← e) (take-all (length t - s) (drop s t) (omega (arith, length-drop s t)))
+
+pub ruleset for-behind = (needs, behind-in, behind-is)
+
+field-behind : (t u : Text) (f j : ℕ) → u ≡ drop (fieldsLen f t) t → fieldOf u (suc j) ≡ fieldOf t (suc (f + j))
+unfolding fieldOf
+field-behind t u f j e = ap (λ (s : Text). getD (fieldsOf s) j []) e ∙ rw (fields-after f t) (getD-drop f (fieldsOf t) j [])
+
+-- is_refused, relaxed
+module _ (r t : Text) (d : t ≡ fieldOf r 1) where
+  module _ (h : length t ≡ 0) (w : Text) (g : w ≡ fieldOf r 2) where
+    pub refused-none : length w ≡ 0 → false ≡ refusedBy (fieldOf r 1) (fieldOf r 2)
     unfolding refusedBy
-    refused-why k = simp (empty-true t h, empty-false w k)
+    refused-none k = simp (← d, ← g, empty-true t h, empty-true w k)
+
+    pub refused-why : (length w ≡ 0 → ⊥) → true ≡ refusedBy (fieldOf r 1) (fieldOf r 2)
+    unfolding refusedBy
+    refused-why k = simp (← d, ← g, empty-true t h, empty-false w k)
 
   module _ (h : length t ≡ 0 → ⊥) (x : Bool) (e : x ≡ same t (65 ∷ 66 ∷ [])) where
-    pub refused-ab : x ≡ true → false ≡ refusedBy t w
+    pub refused-ab : x ≡ true → false ≡ refusedBy (fieldOf r 1) (fieldOf r 2)
     unfolding refusedBy
-    refused-ab k = simp (empty-false t h, ← e, k)
+    refused-ab k = simp (← d, empty-false t h, ← e, k)
 
-    pub refused-other : x ≡ false → true ≡ refusedBy t w
+    pub refused-other : x ≡ false → true ≡ refusedBy (fieldOf r 1) (fieldOf r 2)
     unfolding refusedBy
-    refused-other k = simp (empty-false t h, ← e, k)
+    refused-other k = simp (← d, empty-false t h, ← e, k)
 
 pub ruleset for-refused = (needs, refused-none, refused-why, refused-ab, refused-other)
 
-module _ (l t : Text) (d : t ≡ fieldOf l 5) (x : Bool) (e : x ≡ same t (72 ∷ [])) where
+module _ (l v : Text) (a : v ≡ drop (fieldsLen 4 l) l) (t : Text) (d : t ≡ fieldOf v 1) (x : Bool) (e : x ≡ same t (72 ∷ [])) where
+  is-fifth : fieldOf l 5 ≡ t
+  is-fifth = sym (d ∙ field-behind l v 4 0 a)
+
   pub relaxed-h : x ≡ true → true ≡ relaxedBy (fieldsOf l)
   unfolding relaxedBy
-  relaxed-h k = simp (field-is, ← d, ← e, k)
+  relaxed-h k = simp (field-is, is-fifth, ← e, k)
 
-  module _ (n : x ≡ false) (u : Text) (g : u ≡ fieldOf l 20) where
+  module _ (n : x ≡ false) (r : Text) (b : r ≡ drop (fieldsLen 13 v) v) (u : Text) (g : u ≡ fieldOf r 3) where
+    later : (j : ℕ) → fieldOf l (suc (4 + (13 + j))) ≡ fieldOf r (suc j)
+    later j = sym (field-behind v r 13 j b ∙ field-behind l v 4 (13 + j) a)
+
+    is-last : fieldOf l 20 ≡ u
+    is-last = later 2 ∙ sym g
+
     pub relaxed-20 : (length u ≡ 0 → ⊥) → true ≡ relaxedBy (fieldsOf l)
     unfolding relaxedBy
-    relaxed-20 k = simp (field-is, ← d, ← e, n, ← g, empty-false u k)
+    relaxed-20 k = simp (field-is, is-fifth, ← e, n, is-last, empty-false u k)
 
-    pub relaxed-18 : (v w : Text) (y : Bool) → length u ≡ 0 → v ≡ fieldOf l 18 → w ≡ fieldOf l 19 → y ≡ refusedBy v w → y ≡ relaxedBy (fieldsOf l)
+    pub relaxed-18 : (y : Bool) → length u ≡ 0 → y ≡ refusedBy (fieldOf r 1) (fieldOf r 2) → y ≡ relaxedBy (fieldsOf l)
     unfolding relaxedBy refusedBy
-    relaxed-18 v w y k p q r = simp (field-is, ← d, ← e, n, ← g, empty-true u k, ← p, ← q) r
+    relaxed-18 y k p = simp (field-is, is-fifth, ← e, n, is-last, empty-true u k, later 0, later 1) p
 
 pub ruleset for-relaxed = (needs, relaxed-h, relaxed-20, relaxed-18)
 

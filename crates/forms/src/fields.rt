@@ -11,7 +11,8 @@ use texts::*;
 ghost use mathlib.Core.Bool.{_&&_};
 ghost use mathlib.Core.Path.{_≡_};
 ghost use Rattle.house.specs.Text.{within, isEmpty};
-ghost use Rattle.lines.specs.Lines.{fieldsOf};
+ghost use lib.ListN.{drop};
+ghost use Rattle.lines.specs.Lines.{fieldsOf, fieldOf, fieldsLen};
 ghost use Rattle.lines.specs.Records.{recOf};
 ghost use Rattle.rules.specs.Forms.{formOf, isJudged, relaxedBy, isRelaxed, isSound, isGiven};
 ghost use Rattle.forms.specs.Leaves.{refusedBy, optionalIn, lowestIn, soundAs};
@@ -155,12 +156,21 @@ fn is_judged(kind: u8, f: usize) -> bool
     }
 }
 
-// Whether II 18 and 19 relax an event.
-fn is_refused(t: &[u8], why: &[u8]) -> bool
-    ensures { λ r. ⌜ r ≡ refusedBy (now (t .entry)) (now (why .entry)) ⌝ }
+// A line's text behind its first f fields.
+fn behind(text: &[u8], f: usize) -> &[u8]
+    ensures { λ r. ⌜ now r ≡ drop (fieldsLen f (now (text .entry))) (now (text .entry)) ⌝ }
 {
+    let start = lines::field_start(text, f);
+    &text[start..]
+}
+
+// Whether II 18 and 19, the first two fields of the rest of a line, relax an event.
+fn is_refused(rest: &[u8]) -> bool
+    ensures { λ r. ⌜ r ≡ refusedBy (fieldOf (now (rest .entry)) 1) (fieldOf (now (rest .entry)) 2) ⌝ }
+{
+    let t = lines::field_of(rest, 1);
     if t.len() == 0 {
-        if why.len() == 0 {
+        if lines::field_of(rest, 2).len() == 0 {
             return false;
         } else {
             return true;
@@ -169,15 +179,17 @@ fn is_refused(t: &[u8], why: &[u8]) -> bool
     if house::same(t, b"AB") { false } else { true }
 }
 
-// Whether an II is a relaxed event, by fields 5, 18, 19 and 20.
+// Whether an II is a relaxed event, by fields 5, 18, 19 and 20. The line is read once: to 18 from the start of 5, and on from there.
 pub fn relaxed(line: &[u8]) -> bool
     ensures { λ r. ⌜ r ≡ relaxedBy (fieldsOf (now (line .entry))) ⌝ }
 {
-    if house::same(lines::field_of(line, 5), b"H") {
+    let fifth = behind(line, 4);
+    if house::same(lines::field_of(fifth, 1), b"H") {
         return true;
     }
-    if lines::field_of(line, 20).len() == 0 {
-        is_refused(lines::field_of(line, 18), lines::field_of(line, 19))
+    let rest = behind(fifth, 13);
+    if lines::field_of(rest, 3).len() == 0 {
+        is_refused(rest)
     } else {
         true
     }

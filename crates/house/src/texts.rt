@@ -2,34 +2,45 @@
 use crate::Order;
 ghost use mathlib.Core.Path.{_≡_};
 ghost use mathlib.Core.Bool.{true};
+ghost use mathlib.Core.Logic.{_⊎_};
+ghost use mathlib.Core.List.{[]};
 ghost use Prim.Native.Nat.{_≤_};
 ghost use lib.ListN.{length, drop, getD};
 ghost use Rattle.house.specs.Text.{all, isBlank, digits, number, graphicLen, isPadded, pad, orderOf, below, same};
+
+// The lesser of two numbers.
+fn lesser(m: usize, n: usize) -> usize
+    ensures { λ r. ⌜ r ≤ m ⌝ }
+    ensures { λ r. ⌜ r ≤ n ⌝ }
+    ensures { λ r. ⌜ (r ≡ m) ⊎ (r ≡ n) ⌝ }
+{
+    if m < n { m } else { n }
+}
 
 // How a stands to b; a text stands before those that go on from it.
 pub fn compare(a: &[u8], b: &[u8]) -> Order
     ensures { λ r. ⌜ r ≡ orderOf (now (a .entry)) (now (b .entry)) ⌝ }
 {
+    let n = lesser(a.len(), b.len());
     let mut i = 0;
-    while i < a.len() {
-        if b.len() <= i {
-            return Order::More;
-        }
+    while i < n {
         let x = a[i];
         let y = b[i];
-        if x < y {
-            return Order::Less;
-        }
-        if y < x {
+        if x != y {
+            if x < y {
+                return Order::Less;
+            }
             return Order::More;
         }
         i += 1;
     }
-    if i < b.len() {
-        Order::Less
-    } else {
-        Order::Same
+    if a.len() < b.len() {
+        return Order::Less;
     }
+    if b.len() < a.len() {
+        return Order::More;
+    }
+    Order::Same
 }
 
 // Whether a stands before b.
@@ -68,18 +79,61 @@ pub(crate) fn padded_byte(text: &[u8], i: usize) -> u8
     if i < text.len() { text[i] } else { 32 }
 }
 
+// How a code stands to blanks, from a place on.
+fn blanks_order(code: &[u8], at: usize) -> Order
+    ensures { λ r. ⌜ r ≡ orderOf (drop at (now (code .entry))) (drop at (pad (length (now (code .entry))) [])) ⌝ }
+{
+    let mut i = at;
+    while i < code.len() {
+        let x = code[i];
+        if x != 32 {
+            if x < 32 {
+                return Order::Less;
+            }
+            return Order::More;
+        }
+        i += 1;
+    }
+    Order::Same
+}
+
 // How a code stands to a text that is padded to the code's width, without writing the padded text.
 pub fn compare_padded(code: &[u8], text: &[u8]) -> Order
     ensures { λ r. ⌜ r ≡ orderOf (now (code .entry)) (pad (length (now (code .entry))) (now (text .entry))) ⌝ }
 {
+    let n = lesser(code.len(), text.len());
     let mut i = 0;
-    while i < code.len() {
+    while i < n {
         let x = code[i];
-        let y = padded_byte(text, i);
-        if x < y {
-            return Order::Less;
+        let y = text[i];
+        if x != y {
+            if x < y {
+                return Order::Less;
+            }
+            return Order::More;
         }
-        if y < x {
+        i += 1;
+    }
+    blanks_order(code, i)
+}
+
+// How two texts stand to each other from a place on, both padded to a width. Where both have ended, only blanks are left.
+fn pads_from(w: usize, a: &[u8], b: &[u8], at: usize) -> Order
+    ensures { λ r. ⌜ r ≡ orderOf (drop at (pad w (now (a .entry)))) (drop at (pad w (now (b .entry)))) ⌝ }
+{
+    if a.len() <= at {
+        if b.len() <= at {
+            return Order::Same;
+        }
+    }
+    let mut i = at;
+    while i < w {
+        let x = padded_byte(a, i);
+        let y = padded_byte(b, i);
+        if x != y {
+            if x < y {
+                return Order::Less;
+            }
             return Order::More;
         }
         i += 1;
@@ -91,19 +145,21 @@ pub fn compare_padded(code: &[u8], text: &[u8]) -> Order
 pub fn compare_pads(w: usize, a: &[u8], b: &[u8]) -> Order
     ensures { λ r. ⌜ r ≡ orderOf (pad w (now (a .entry))) (pad w (now (b .entry))) ⌝ }
 {
+    let m = lesser(a.len(), b.len());
+    let n = lesser(w, m);
     let mut i = 0;
-    while i < w {
-        let x = padded_byte(a, i);
-        let y = padded_byte(b, i);
-        if x < y {
-            return Order::Less;
-        }
-        if y < x {
+    while i < n {
+        let p = a[i];
+        let q = b[i];
+        if p != q {
+            if p < q {
+                return Order::Less;
+            }
             return Order::More;
         }
         i += 1;
     }
-    Order::Same
+    pads_from(w, a, b, i)
 }
 
 // How many bytes in 33..126 a text starts with.

@@ -2,12 +2,12 @@
 -- Assumes nothing.
 use mathlib.Core.Path.{_≡_, sym, _∙_}
 use mathlib.Core.Bool.{Bool}
-use Prim.Native.Nat.{ℕ}
+use Prim.Native.Nat.{ℕ, _+_}
 use lib.ListN.{length, drop}
 use Rattle.house.specs.Text.{Text}
 use Rattle.lines.specs.declared.LineAt.{LineAt}
 use Rattle.lines.specs.declared.Shape.{Shape}
-use Rattle.lines.specs.Lines.{lineOf, fieldsOf, fieldOf, fieldText, fieldThere, fieldPosition, LineIs}
+use Rattle.lines.specs.Lines.{lineOf, fieldsOf, fieldOf, fieldText, fieldThere, fieldPosition, fieldsLen, pipeLen, LineIs}
 use Rattle.lines.specs.Records.{recordOf}
 use Rattle.lines.specs.Shape.{shapeOf}
 
@@ -25,6 +25,12 @@ kind-of t r q = one
 
 count-fields : (t : Text) (r q : ℕ) → r ≡ length (fieldsOf t) → q ≡ length (fieldsOf t) → r ≡ q
 count-fields t r q = one
+
+field-start : (t : Text) (f r q : ℕ) → r ≡ fieldsLen f t → q ≡ fieldsLen f t → r ≡ q
+field-start t f r q = one
+
+pipe-from : (t : Text) (at r q : ℕ) → r ≡ at + pipeLen (drop at t) → q ≡ at + pipeLen (drop at t) → r ≡ q
+pipe-from t at r q = one
 
 field-of : (t : Text) (f : ℕ) (r q : Text) → r ≡ fieldOf t f → q ≡ fieldOf t f → r ≡ q
 field-of t f r q = one

@@ -24,7 +24,7 @@ pub fn count_fields(text: &[u8]) -> usize
 }
 
 // Where the field after f fields starts, or the text's end.
-fn field_start(text: &[u8], f: usize) -> usize
+pub fn field_start(text: &[u8], f: usize) -> usize
     ensures { λ r. ⌜ r ≡ fieldsLen f (now (text .entry)) ⌝ }
 {
     let mut i = 0;
@@ -45,14 +45,14 @@ fn field_start(text: &[u8], f: usize) -> usize
 fn pipe_from(text: &[u8], at: usize) -> usize
     ensures { λ r. ⌜ r ≡ at + pipeLen (drop at (now (text .entry))) ⌝ }
 {
-    let mut i = at;
-    while i < text.len() {
-        if text[i] == b'|' {
-            return i;
+    let mut end = at;
+    while end < text.len() {
+        if text[end] == b'|' {
+            return end;
         }
-        i += 1;
+        end += 1;
     }
-    i
+    end
 }
 
 // Field f of a line's text, counted from 1; empty where it is not there.

@@ -11,6 +11,7 @@ pub use fields::field_at;
 pub use fields::field_from;
 pub use fields::field_of;
 pub use fields::field_position;
+pub use fields::field_start;
 pub use fields::has_field;
 pub use kinds::IA;
 pub use kinds::IE;

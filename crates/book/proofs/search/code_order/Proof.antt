@@ -23,6 +23,4 @@ code-order-spec =
     (λ c. search for-code-order)
     (λ c. search for-code-order)
     (λ c. search for-code-order)
-    (λ c. search for-code-order)
-    (λ c. search for-code-order)
     (λ c. search for-code-order))

@@ -12,6 +12,4 @@ probe-spec =
     (λ c. search for-probe)
     (λ c. search for-probe)
     (λ c. search for-probe)
-    (λ c. search for-probe)
-    (λ c. search for-probe)
     (λ c. search for-probe))

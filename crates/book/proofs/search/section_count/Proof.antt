@@ -14,6 +14,4 @@ section-count-spec =
     (λ c. search for-section-count)
     (λ c. search for-section-count)
     (λ c. search for-section-count)
-    (λ c. search for-section-count)
-    (λ c. search for-section-count)
     (λ c. search for-section-count))

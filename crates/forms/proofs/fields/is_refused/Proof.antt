@@ -13,4 +13,6 @@ is-refused-spec =
     (λ c. search for-refused)
     (λ c. search for-refused)
     (λ c. search for-refused)
+    (λ c. search for-refused)
+    (λ c. search for-refused)
     (λ c. search for-refused))

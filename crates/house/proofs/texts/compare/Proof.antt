@@ -1,18 +1,18 @@
 -- `house::texts::compare` meets its contract.
 -- Assumes nothing.
 use Rattle.house.proofs.OrderLaws.{for-compare}
-use Prim.Native.Nat.{_-_}
+use Prim.Native.Nat.{_-_, _≤_}
 use mathlib.Core.Path.{_≡_}
-use lib.ListN.{length, drop}
+use lib.ListN.{drop}
 use Rattle.house.specs.Text.{orderOf}
 use Rattle.house.proofs.texts.compare.Statement.{statement}
 use Rattle.house.proofs.texts.compare.Tie as tie
 
 abbrev Inv-loop : tie.InvT-loop
-Inv-loop a b i₀ i = orderOf a b ≡ orderOf (drop i a) (drop i b)
+Inv-loop a b n i₀ i = (i ≤ n) × (orderOf a b ≡ orderOf (drop i a) (drop i b))
 
 abbrev μ-loop : tie.MeasureT-loop
-μ-loop a b i₀ i = length a - i
+μ-loop a b n i₀ i = n - i
 
 pub compare-spec : {M : Type 1} → statement M
 compare-spec =
@@ -20,6 +20,7 @@ compare-spec =
     (tie.spec
     Inv-loop
     μ-loop
+    (λ c. search for-compare)
     (λ c. search for-compare)
     (λ c. search for-compare)
     (λ c. search for-compare)

@@ -1,7 +1,7 @@
 -- `house::texts::compare_padded` meets its contract.
 -- Assumes nothing.
 use Rattle.house.proofs.OrderLaws.{for-compare-padded}
-use Prim.Native.Nat.{_-_}
+use Prim.Native.Nat.{_-_, _≤_}
 use mathlib.Core.Path.{_≡_}
 use lib.ListN.{length, drop}
 use Rattle.house.specs.Text.{orderOf, pad}
@@ -9,10 +9,10 @@ use Rattle.house.proofs.texts.compare_padded.Statement.{statement}
 use Rattle.house.proofs.texts.compare_padded.Tie as tie
 
 abbrev Inv-loop : tie.InvT-loop
-Inv-loop code text i₀ i = orderOf code (pad (length code) text) ≡ orderOf (drop i code) (drop i (pad (length code) text))
+Inv-loop code text n i₀ i = (i ≤ n) × (orderOf code (pad (length code) text) ≡ orderOf (drop i code) (drop i (pad (length code) text)))
 
 abbrev μ-loop : tie.MeasureT-loop
-μ-loop code text i₀ i = length code - i
+μ-loop code text n i₀ i = n - i
 
 pub compare-padded-spec : {M : Type 1} → statement M
 compare-padded-spec =
@@ -20,6 +20,8 @@ compare-padded-spec =
     (tie.spec
     Inv-loop
     μ-loop
+    (λ c. search for-compare-padded)
+    (λ c. search for-compare-padded)
     (λ c. search for-compare-padded)
     (λ c. search for-compare-padded)
     (λ c. search for-compare-padded)

@@ -1,7 +1,7 @@
 -- `house::texts::compare_pads` meets its contract.
 -- Assumes nothing.
 use Rattle.house.proofs.OrderLaws.{for-compare-pads}
-use Prim.Native.Nat.{_-_}
+use Prim.Native.Nat.{_-_, _≤_}
 use mathlib.Core.Path.{_≡_}
 use lib.ListN.{drop}
 use Rattle.house.specs.Text.{orderOf, pad}
@@ -9,10 +9,10 @@ use Rattle.house.proofs.texts.compare_pads.Statement.{statement}
 use Rattle.house.proofs.texts.compare_pads.Tie as tie
 
 abbrev Inv-loop : tie.InvT-loop
-Inv-loop w a b i₀ i = orderOf (pad w a) (pad w b) ≡ orderOf (drop i (pad w a)) (drop i (pad w b))
+Inv-loop w a b m n i₀ i = (i ≤ n) × (orderOf (pad w a) (pad w b) ≡ orderOf (drop i (pad w a)) (drop i (pad w b)))
 
 abbrev μ-loop : tie.MeasureT-loop
-μ-loop w a b i₀ i = w - i
+μ-loop w a b m n i₀ i = n - i
 
 pub compare-pads-spec : {M : Type 1} → statement M
 compare-pads-spec =
@@ -20,6 +20,9 @@ compare-pads-spec =
     (tie.spec
     Inv-loop
     μ-loop
+    (λ c. search for-compare-pads)
+    (λ c. search for-compare-pads)
+    (λ c. search for-compare-pads)
     (λ c. search for-compare-pads)
     (λ c. search for-compare-pads)
     (λ c. search for-compare-pads)

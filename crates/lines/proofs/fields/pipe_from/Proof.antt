@@ -9,10 +9,10 @@ use Rattle.lines.proofs.fields.pipe_from.Statement.{statement}
 use Rattle.lines.proofs.fields.pipe_from.Tie as tie
 
 abbrev Inv-loop : tie.InvT-loop
-Inv-loop text at i₀ i = at + pipeLen (drop at text) ≡ i + pipeLen (drop i text)
+Inv-loop text at end₀ end = at + pipeLen (drop at text) ≡ end + pipeLen (drop end text)
 
 abbrev μ-loop : tie.MeasureT-loop
-μ-loop text at i₀ i = length text - i
+μ-loop text at end₀ end = length text - end
 
 pub pipe-from-spec : {M : Type 1} → statement M
 pipe-from-spec =
