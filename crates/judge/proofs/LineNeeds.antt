@@ -91,6 +91,8 @@ pub ruleset for-judge-field = (needs, relaxed-told, field-iv, field-ip, field-ii
 module _ (today : ℕ) (book : Text) (q : Sections) (place : ℕ) (line ip head since block own first : Text) (day : Day) (facts : Facts) (n count : ℕ) (area₀ : Text) where
   -- what is left of a line's findings, from field f on
   pub record Going (fields at f c : ℕ) (area : Text) : Type 0 where
+    pub all : fields ≡ length (fieldsOf line)
+    pub bound : count + 3 * length (fieldsOf line) < 2 ^ 63
     pub from : 1 ≤ f
     pub few : c + 3 ≤ count + 3 * f
     pub on : f ≤ fields + 1
@@ -100,29 +102,32 @@ module _ (today : ℕ) (book : Text) (q : Sections) (place : ℕ) (line ip head 
     pub left : (s : Setting) (v : Seen) → Told today book q place line ip head since block own first day facts s v
         → keep (fieldsFindings s n v 1 (length (fieldsOf line))) (kept count area₀) ≡ keep (fieldsFindings s n v f (fields + 1 - f)) (kept c area)
 
-  pub going-start : (fields : ℕ) → fields ≡ length (fieldsOf line) → Going fields 0 1 count area₀
-  going-start fields e = record { from = omega arith; few = omega arith; on = omega arith; size = refl; cut = refl; left = λ s v t. rw (add-sub-one fields, e) }
+  pub going-start : (fields : ℕ) → fields ≡ length (fieldsOf line) → count + 3 * length (fieldsOf line) < 2 ^ 63 → Going fields 0 1 count area₀
+  going-start fields e b = record { all = e; bound = b; from = omega arith; few = omega arith; on = omega arith; size = refl; cut = refl; left = λ s v t. rw (add-sub-one fields, e) }
     where
       add-sub-one : (m : ℕ) → m + 1 - 1 ≡ m
       add-sub-one m = omega arith
 
   module _ (fields at f c : ℕ) (area : Text) (g : Going fields at f c area) where
-    pub going-end : fields < f → fields ≡ length (fieldsOf line) → (s : Setting) (v : Seen) → Told today book q place line ip head since block own first day facts s v
+    pub going-end : fields < f → (s : Setting) (v : Seen) → Told today book q place line ip head since block own first day facts s v
         → kept c area ≡ keep (fieldsFindings s n v 1 (length (fieldsOf line))) (kept count area₀)
-    going-end h e s v t = line-end s n v _ f (fields + 1 - f) c area (g .left s v t) (omega arith)
+    going-end h s v t = line-end s n v _ f (fields + 1 - f) c area (g .left s v t) (omega arith)
 
-    pub going-few : fields < f → fields ≡ length (fieldsOf line) → c ≤ count + 3 * length (fieldsOf line)
-    going-few h e = omega (arith, g .few, g .on)
+    pub going-few : fields < f → c ≤ count + 3 * length (fieldsOf line)
+    going-few h = omega (arith, g .all, g .few, g .on)
 
-    module _ (h : f ≤ fields) (e : fields ≡ length (fieldsOf line)) where
+    module _ (h : f ≤ fields) where
       before : f - 1 < length (fieldsOf line)
-      before = omega (arith, g .from)
+      before = omega (arith, g .all, g .from)
 
       step : suc (f - 1) ≡ f
       step = omega (arith, g .from)
 
-      pub going-fits : count + 3 * length (fieldsOf line) < 2 ^ 63 → c + 3 < 2 ^ 64
-      going-fits b = omega (arith, g .few, g .from)
+      pub going-fits : c + 3 < 2 ^ 64
+      going-fits = omega (arith, g .all, g .bound, g .few, g .from)
+
+      pub going-number : f + 1 < 2 ^ 64
+      going-number = omega (arith, g .all, g .bound)
 
       -- the field's text
       module _ (t : Text) (z : t ≡ fieldOf (drop at line) 1) where
@@ -133,16 +138,18 @@ module _ (today : ℕ) (book : Text) (q : Sections) (place : ℕ) (line ip head 
         going-text = z ∙ next-text line at (f - 1) (g .cut) before ∙ ap (fieldOf line) step
 
         pub going-on : (b : Broken) (d : ℕ) (y : Text) → ((s : Setting) (v : Seen) → Told today book q place line ip head since block own first day facts s v → listed b ≡ brokenAt s v f)
-            → kept d y ≡ keep (found n f (listed b)) (kept c area) → d ≤ c + 3 → length y ≡ length area → Going fields (at + length t + 1) (f + 1) d y
-        going-on b d y i m l o =
+            → kept d y ≡ keep (found n f (listed b)) (kept c area) → d ≤ c + 3 → length y ≡ length area → (next : ℕ) → next ≡ at + length t + 1 → Going fields next (f + 1) d y
+        going-on b d y i m l o next nx =
             record {
+              all = g .all;
+              bound = g .bound;
               from = omega arith;
               few = omega (arith, g .few);
               on = omega arith;
               size = o ∙ g .size;
               cut =
                   let u : f + 1 - 1 ≡ suc (f - 1) = omega (arith, g .from) in
-                  rw (z, u) (next-fields line at (f - 1) (g .cut) before);
+                  rw (nx, z, u) (next-fields line at (f - 1) (g .cut) before);
               left =
                   λ s v w.
                   let u : fields + 1 - (f + 1) ≡ fields + 1 - f - 1 = omega arith in
@@ -150,4 +157,4 @@ module _ (today : ℕ) (book : Text) (q : Sections) (place : ℕ) (line ip head 
                   ∙ rw u;
             }
 
-pub ruleset for-judge-fields = (needs, going-start, going-end, going-few, going-fits, going-inside, going-text, going-on)
+pub ruleset for-judge-fields = (needs, going-start, going-end, going-few, going-fits, going-number, going-inside, going-text, going-on)

@@ -82,6 +82,14 @@ fn judge_field(
     }
 }
 
+// Where the field behind the one that starts at a position of a line with text t starts.
+fn behind(line: &[u8], at: usize, t: &[u8]) -> usize
+    requires { ⌜ at + length (now t) < length (now line) ⌝ }
+    ensures { λ r. ⌜ r ≡ at + length (now (t .entry)) + 1 ⌝ }
+{
+    at + t.len() + 1
+}
+
 // Every field of a line of kind k, the n-th of the file: its findings put to the others.
 pub(crate) fn judge_fields(
     k: u8,
@@ -134,7 +142,7 @@ pub(crate) fn judge_fields(
             t,
         );
         c = emit(area, c, n, f, b);
-        at = at + t.len() + 1;
+        at = behind(line, at, t);
         f += 1;
     }
     c
