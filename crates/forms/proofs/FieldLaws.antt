@@ -1,11 +1,10 @@
 -- A line read as a record, field by field.
 -- Assumes nothing.
-use mathlib.Core.Path.{_≡_, refl, _∙_}
+use mathlib.Core.Path.{_≡_, refl}
 use mathlib.Core.Bool.{Bool, true, false, not, cond, _&&_, _||_, and-false}
 use mathlib.Core.List.{List, [], _∷_}
-use Prim.Native.Nat.{ℕ, _<_}
+use Prim.Native.Nat.{ℕ}
 use native.Mathlib.Omega.{arith}
-use borrow.Author.Tests.{eq-eqb, ne-eqb}
 use lib.Dec.{eqb}
 use lib.ListN.{length}
 use Rattle.house.specs.Text.{Text, any, those, within, isEmpty}
@@ -13,7 +12,6 @@ use Rattle.lines.specs.Lines.{fieldsOf, fieldOf}
 use Rattle.lines.specs.Records.{Rec, II, recordOf, recOf, isKind}
 use Rattle.rules.specs.Forms.{fieldIn, text, isJudged, isRelaxed, relaxedBy, isOptional, isMissing, isMisformed, isSound, isGiven}
 use Rattle.rules.specs.Rules.{lacks, sameAntigen, sameLot}
-use Rattle.texts.proofs.TextLaws.{within-low}
 use Rattle.forms.specs.Leaves.{lowest, optionalIn, lowestIn, soundAs, antigenIs, lotIs, lotLater}
 
 pub text-is : (t : Text) (f : ℕ) → text (recOf t) f ≡ fieldOf t f
@@ -59,16 +57,6 @@ module _ (k f : ℕ) (t : Text) (later : ℕ) (a b : Bool) where
   pub lowest-filled : (length t ≡ 0 → ⊥) → lowestIn k a f t later ≡ lowestIn k b f t later
   unfolding lowestIn
   lowest-filled n = rw (empty-false t n, and-false (isJudged k f && not (optionalIn k a f)), and-false (isJudged k f && not (optionalIn k b f)))
-
-module _ (k : ℕ) (line t : Text) (f later : ℕ) (relaxed : Bool) where
-  pub lowest-other : (k ≡ 4 → ⊥) → t ≡ fieldOf line f → lowestIn k relaxed f t later ≡ lowest k (recOf line) f later
-  lowest-other n d =
-      lowest-either k f t later relaxed (isRelaxed (recOf line)) (rw (ne-eqb k 4 n)) ∙ lowest-of k line t f later _ d refl
-
-  pub lowest-early : k ≡ 4 → f < 9 → t ≡ fieldOf line f → lowestIn k relaxed f t later ≡ lowest k (recOf line) f later
-  lowest-early e h d =
-      lowest-either k f t later relaxed (isRelaxed (recOf line)) (rw (eq-eqb k 4 e, within-low 9 15 f h))
-      ∙ lowest-of k line t f later _ d refl
 
 pub sound-as : (k : ℕ) (l : Rec) (f : ℕ) → soundAs k l f (text l f) ≡ isSound k l f
 unfolding soundAs isSound lowest
