@@ -1,12 +1,15 @@
 -- What each need of `write6`, `put_finding`, `emit_one` and `emit` asks.
 -- Assumes nothing.
 use mathlib.Core.Path.{_≡_, refl, sym, ap, _∙_}
+use mathlib.Core.Bool.{Bool, true, false}
 use mathlib.Core.List.{List, [], _∷_, _++_}
 use Prim.Native.Nat.{ℕ, _+_, _*_, _/_, _%_, _≤_, _<_}
 use native.Mathlib.Omega.{arith}
 use borrow.Author.Needs.{needs}
 use borrow.Author.Tests.{ne-eqb, lt-ltb, le-ltb}
+use lib.Dec.{eqb}
 use lib.ListN.{length, set, length-set}
+use Rattle.house.proofs.Small.{clash}
 use Rattle.house.specs.Text.{Text}
 use Rattle.rules.specs.Findings.{Finding, found}
 use Rattle.later.specs.declared.Broken.{Broken}
@@ -77,4 +80,19 @@ emit-all n f k k1 k2 k3 s s1 s2 s3 b p q r =
     (sym
     (rw (found-append n f (some (b .a)) (some (b .b) ++ some (b .c)), found-append n f (some (b .b)) (some (b .c)), keep-append, keep-append)))
 
-pub ruleset for-emit = (needs, emit-all)
+pub emit-nothing : (n f k : ℕ) (s : Text) (b : Broken) (t : Bool) → (t ≡ true → listed b ≡ []) → t ≡ true → kept k s ≡ keep (found n f (listed b)) (kept k s)
+unfolding keep found
+emit-nothing n f k s b t e h = rw (e h)
+
+pub ruleset for-emit = (needs, emit-nothing, emit-all)
+
+-- is_none
+module _ (b : Broken) where
+  pub none-all : (t : Bool) → b .a ≡ 0 → b .b ≡ 0 → t ≡ eqb (b .c) 0 → t ≡ true → listed b ≡ []
+  unfolding listed
+  none-all t x y e h = rw (x, y, sym e ∙ h)
+
+  pub none-not : false ≡ true → listed b ≡ []
+  none-not h = clash (cc)
+
+pub ruleset for-is-none = (needs, none-all, none-not)

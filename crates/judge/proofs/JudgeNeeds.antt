@@ -1,24 +1,28 @@
 -- What each need of the public function asks: the index is built or not, and the walk's answer.
 -- Assumes nothing.
-use mathlib.Core.Path.{_≡_, refl, sym, ap, _∙_}
+use mathlib.Core.Path.{_≡_, refl, sym, ap, _∙_, subst}
+use mathlib.Core.Logic.{inl, inr}
 use mathlib.Core.Bool.{Bool, true, false, cond, _&&_}
-use mathlib.Core.List.{List}
+use mathlib.Core.List.{List, []}
 use Prim.Native.Nat.{ℕ, _-_, _≤_}
 use native.Mathlib.Omega.{arith}
 use borrow.Author.Needs.{needs}
 use borrow.Author.Tests.{leb-true}
 use lib.Dec.{leb}
 use lib.ListN.{length, take}
+use lib.Seq.{length-take-le, take-all, take-take}
 use Rattle.house.specs.Text.{Text, count}
 use Rattle.house.proofs.Small.{both, clash}
 use Rattle.lines.specs.Records.{IN, isKind, recs}
 use Rattle.book.specs.declared.Sections.{Sections}
 use Rattle.rules.specs.Findings.{areaAfter}
+use Rattle.events.specs.Events.{eventsAt, ascends}
 use Rattle.index.specs.declared.Built.{Built}
 use Rattle.index.specs.declared.Built.the-variants.{Blocks, TooMany as NotBuilt}
 use Rattle.index.specs.Firsts.{firstsOf, indexOf, over, canBuild, builtOf, builtIn}
 use Rattle.index.proofs.OverLaws.{over-taken, length-over, index-size}
 use Rattle.judge.specs.declared.Judged.the-variants.{Done, TooMany}
+use Rattle.judge.specs.Walk.{Serves}
 use Rattle.judge.specs.Judged.{findingsBy, judgedOf, judgedArea}
 
 module _ (file : Text) (m : ℕ) (r : Built) (e : r ≡ builtOf file m) where
@@ -84,4 +88,29 @@ module _ (file : Text) (room₀ room : List ℕ) (r : Built) (e : r ≡ builtOf 
       ∙ ap (take n) written
       ∙ over-taken (indexOf file) room₀ n (index-size file ∙ sym (is-built file (length room₀) r e n z .1)) fits
 
-pub ruleset for-judge = (needs, judged-none, area-none, judged-done, area-done, built-short, room-in, room-index)
+  -- the places that are asked are at the front of the room
+  module _ (k : ℕ) (m : k ≤ length (take (n - 0) room)) where
+    few : k ≤ n
+    few = let l = length-take-le (n - 0) room (omega (arith, room-in)) in omega (arith, l)
+
+    pub asked-in : k ≤ length room
+    asked-in = omega (arith, few, room-in)
+
+    pub asked-serves : Serves file (take k (take (n - 0) room)) → Serves file (take (k - 0) room)
+    asked-serves v =
+        let o : k ≡ k - 0 = omega arith in
+        subst (Serves file) (take-take k (n - 0) room (omega (arith, few)) ∙ ap (λ (i : ℕ). take i room) o) v
+
+pub ruleset for-judge = (needs, judged-none, area-none, judged-done, area-done, built-short, room-in, room-index, asked-in, asked-serves)
+
+-- places_asked
+module _ (file : Text) (index : List ℕ) (i : index ≡ indexOf file) (t : Bool) (e : t ≡ ascends (eventsAt file index)) where
+  pub ask-none : t ≡ true → Serves file (take 0 index)
+  unfolding Serves
+  ask-none h = inr (refl, ap (λ (xs : List ℕ). ascends (eventsAt file xs)) (sym i) ∙ sym e ∙ h)
+
+  pub ask-all : Serves file (take (length index) index)
+  unfolding Serves
+  ask-all = inl (take-all (length index) index (omega arith) ∙ i)
+
+pub ruleset for-places-asked = (needs, ask-none, ask-all)

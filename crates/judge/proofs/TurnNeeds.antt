@@ -2,7 +2,8 @@
 -- Assumes nothing.
 use mathlib.Core.Path.{_≡_, refl, sym, ap, _∙_}
 use mathlib.Core.Bool.{Bool, true, false, cond, _&&_}
-use mathlib.Core.List.{List, reverse}
+use mathlib.Core.Logic.{inl, inr}
+use mathlib.Core.List.{List, [], reverse}
 use Prim.Native.Nat.{ℕ, _+_, _-_, _*_, _^_, _≤_, _<_}
 use native.Mathlib.Omega.{arith}
 use borrow.Author.Needs.{needs}
@@ -11,7 +12,7 @@ use lib.Seq.{take-all}
 use Rattle.house.specs.Text.{Text, any, front, count}
 use Rattle.house.proofs.Facts.{of-true}
 use Rattle.lines.specs.declared.LineAt.{LineAt}
-use Rattle.lines.specs.Lines.{LineIs, fieldsOf}
+use Rattle.lines.specs.Lines.{LineIs, lineOf, fieldsOf}
 use Rattle.lines.specs.Records.{Rec, IE, IN, isKind, recordOf, recOf, recs}
 use Rattle.lines.specs.Inside.{part, whole}
 use Rattle.book.specs.declared.Sections.{Sections}
@@ -19,9 +20,13 @@ use Rattle.ledger.specs.Ledger.{Event, foundIn}
 use Rattle.rules.specs.Blocks.{isInBlock, sameEvent, joins, nearestOf, openAfter, eventOf, isRepeated}
 use Rattle.rules.specs.Seen.{Setting}
 use Rattle.rules.specs.Findings.{Finding, fieldsFindings, findingsOf, areaAfter}
+use Rattle.events.specs.Events.{eventsAt, ascends}
+use Rattle.house.specs.Search.{halve}
 use Rattle.index.specs.Firsts.{indexOf, foundBefore}
 use Rattle.index.proofs.FindLaws.{found-named}
-use Rattle.index.proofs.StartLaws.{named-upto}
+use Rattle.index.specs.Inside.{recAt}
+use Rattle.index.proofs.OnceLaws.{once-new}
+use Rattle.index.proofs.StartLaws.{passed-upto, start-upto, named-upto}
 use Rattle.judge.specs.declared.State.{State}
 use Rattle.judge.specs.declared.BlockAt.{BlockAt}
 use Rattle.later.specs.declared.Facts.{Facts}
@@ -29,13 +34,13 @@ use Rattle.judge.specs.declared.Turn.{Turn}
 use Rattle.judge.specs.Inside.{Kept, kept, keep}
 use Rattle.later.specs.Look.{knownBy, forceBy}
 use Rattle.judge.specs.Look.{settingBy}
-use Rattle.judge.specs.Walk.{partOf, span, linesBefore, Holds, BlockIs, Ready, TurnIs, headAt, seenOf, seenWith, factsBy, startState, advanced, restOf}
+use Rattle.judge.specs.Walk.{partOf, span, linesBefore, Holds, BlockIs, Ready, Serves, TurnIs, headAt, seenOf, seenWith, factsBy, startState, advanced, restOf}
 use Rattle.judge.specs.Fields.{Looks}
 use Rattle.judge.specs.Judged.{findingsBy}
 use Rattle.judge.proofs.KeepLaws.{keep-all}
 use Rattle.judge.proofs.RuleLaws.{count-reverse}
 use Rattle.judge.proofs.WalkLaws.{inb-is, from-is, repeated-is}
-use Rattle.lines.proofs.LineLaws.{at-past}
+use Rattle.lines.proofs.LineLaws.{at-past, at-text}
 use Rattle.judge.proofs.StepLaws.{holds-start, holds-step, rest-start, rest-end}
 use Rattle.judge.proofs.TurnLaws.{fields-free, turn-goes}
 
@@ -57,9 +62,9 @@ module _ (file : Text) (at : ℕ) (st : State) (h : Holds file at st) (l : LineA
       go false = h .ended less
 
   -- an earlier block names its event, as the index says it
-  repeated : (index : List ℕ) → index ≡ indexOf file → isRepeated L (linesBefore file at) ≡ b .inb && foundBefore file index (eventOf L) (b .from)
+  named-in : (index : List ℕ) → index ≡ indexOf file → isRepeated L (linesBefore file at) ≡ b .inb && foundBefore file index (eventOf L) (b .from)
   unfolding linesBefore
-  repeated index i = repeated-is file at st h (part file at (l .end)) b bi ∙ go (b .inb) (sym (inb-is file at st h (part file at (l .end)) b bi))
+  named-in index i = repeated-is file at st h (part file at (l .end)) b bi ∙ go (b .inb) (sym (inb-is file at st h (part file at (l .end)) b bi))
     where
       go : (t : Bool) → isInBlock L ≡ t
           → (t && any (λ (p : Rec). isInBlock p && sameEvent L p) (reverse (recs (take (b .from) file)))) ≡ (t && foundBefore file index (eventOf L) (b .from))
@@ -69,7 +74,25 @@ module _ (file : Text) (at : ℕ) (st : State) (h : Holds file at st) (l : LineA
           ∙ ap (λ (xs : List ℕ). foundBefore file xs (eventOf L) (b .from)) (sym i)
       go false z = refl
 
-  module _ (today : ℕ) (book : Text) (q : Sections) (ledger : Text) (live : ℕ) (index : List ℕ) (i : index ≡ indexOf file) (facts : Facts)
+  -- where no two blocks name one event, none is repeated
+  never : ascends (eventsAt file (indexOf file)) ≡ true → isRepeated L (linesBefore file at) ≡ false
+  unfolding linesBefore recAt
+  never o =
+      let w : whole (take at file) ≡ true = h .ended less in
+      let s = start-upto file at (omega arith) w in
+      once-new file o L (reverse (recs (take at file)))
+      (omega (arith, s), ap recOf (at-text file at l e) ∙ ap (λ (n : ℕ). recOf (lineOf (drop n file) .text)) (sym s), passed-upto file at (omega arith) w)
+
+  repeated : (index : List ℕ) → Serves file index → isRepeated L (linesBefore file at) ≡ b .inb && foundBefore file index (eventOf L) (b .from)
+  unfolding Serves foundBefore halve
+  repeated index (inl i) = named-in index i
+  repeated index (inr (i, o)) = never o ∙ go (b .inb) (ap (λ (xs : List ℕ). foundBefore file xs (eventOf L) (b .from)) i)
+    where
+      go : (t : Bool) → foundBefore file index (eventOf L) (b .from) ≡ foundBefore file [] (eventOf L) (b .from) → false ≡ t && foundBefore file index (eventOf L) (b .from)
+      go true z = sym z
+      go false z = refl
+
+  module _ (today : ℕ) (book : Text) (q : Sections) (ledger : Text) (live : ℕ) (index : List ℕ) (i : Serves file index) (facts : Facts)
       (f : facts ≡ factsBy file index ledger live (part file at (l .end)) b) where
     abbrev S : Setting
     S = settingBy today book q (foundIn ledger live)

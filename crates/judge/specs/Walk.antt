@@ -3,7 +3,8 @@
 use Prim.Native.Nat.{ℕ, suc, _+_, _*_, _≤_, _<_}
 use mathlib.Core.Path.{_≡_}
 use mathlib.Core.Bool.{Bool, true, false, cond, _&&_}
-use mathlib.Core.List.{List, reverse}
+use mathlib.Core.Logic.{_⊎_}
+use mathlib.Core.List.{List, [], reverse}
 use lib.ListN.{length, take, drop}
 use lib.Dec.{eqb}
 use Rattle.house.specs.Text.{Text, those, count, front, isEmpty, within, joined}
@@ -12,7 +13,8 @@ use Rattle.lines.specs.Lines.{LineIs}
 use Rattle.lines.specs.Records.{Rec, IP, II, IE, IN, IA, isKind, recordOf, recOf, recs}
 use Rattle.lines.specs.Inside.{part, whole}
 use Rattle.ledger.specs.Ledger.{foundIn}
-use Rattle.index.specs.Firsts.{foundBefore}
+use Rattle.events.specs.Events.{eventsAt, ascends}
+use Rattle.index.specs.Firsts.{indexOf, foundBefore}
 use Rattle.rules.specs.Places.{placesFrom, nearest, isNumbered}
 use Rattle.rules.specs.Blocks.{isInBlock, joins, eventOf, nearestOf, openAfter, hasSecond, firstOpen, beforeOpen}
 use Rattle.rules.specs.Seen.{Setting, Seen}
@@ -108,6 +110,10 @@ pub record OwnEnd (file : Text) (k from r : ℕ) : Type 0 where
   pub ii-own : k ≡ II → front (isKind IE) (recs (drop from file)) ≡ recs (part file from r)
   pub end-from : from ≤ r
   pub end-in : r ≤ length file
+
+-- what the walk may look events up in: the index of the file; or none, where no two blocks of the file name one event
+unfoldable pub Serves : Text → List ℕ → Type 0
+Serves file index = (index ≡ indexOf file) ⊎ ((index ≡ []) × (ascends (eventsAt file (indexOf file)) ≡ true))
 
 -- a line of kind k starts at a position, the state and its block are what they are there, and the file is not too long
 pub record Ready (file : Text) (at : ℕ) (l : LineAt) (k : ℕ) (st : State) (b : BlockAt) : Type 0 where

@@ -1,6 +1,8 @@
 // The writer of findings: counts each, and writes those that fit.
 use later::Broken;
 ghost use mathlib.Core.Path.{_≡_};
+ghost use mathlib.Core.Bool.{true};
+ghost use mathlib.Core.List.{[]};
 ghost use Prim.Native.Nat.{_+_, _^_, _≤_, _<_};
 ghost use lib.ListN.{length};
 ghost use Rattle.rules.specs.Findings.{found};
@@ -45,12 +47,27 @@ fn emit_one(area: &mut [u8], count: usize, n: usize, f: usize, r: u8) -> usize
     put_finding(area, count, n, f, r)
 }
 
-// Puts the findings of a field to the others.
+// Whether no rule is broken.
+fn is_none(b: Broken) -> bool
+    ensures { λ r. ⌜ (r ≡ true → listed b ≡ []) ⌝ }
+{
+    if b.a == 0 {
+        if b.b == 0 {
+            return b.c == 0;
+        }
+    }
+    false
+}
+
+// Puts the findings of a field to the others: of most there are none.
 pub(crate) fn emit(area: &mut [u8], count: usize, n: usize, f: usize, b: Broken) -> usize
     requires { ⌜ count + 3 < 2 ^ 64 ⌝ }
     ensures { λ k. ⌜ kept k (now (area .exit)) ≡ keep (found n f (listed b)) (kept count (now (area .entry))) ⌝ }
     ensures { λ k. ⌜ k ≤ count + 3 ⌝ }
 {
+    if is_none(b) {
+        return count;
+    }
     let one = emit_one(area, count, n, f, b.a);
     let two = emit_one(area, one, n, f, b.b);
     emit_one(area, two, n, f, b.c)

@@ -32,7 +32,7 @@ ghost use Rattle.index.specs.Firsts.{indexOf, builtIn};
 ghost use Rattle.judge.specs.Inside.{kept, keep};
 ghost use Rattle.judge.specs.Look.{settingBy};
 ghost use Rattle.judge.specs.Fields.{Looks, Told};
-ghost use Rattle.judge.specs.Walk.{partOf, Holds, BlockIs, OwnEnd, Ready, PartsIn, TurnIs, startState, headAt, span, seenWith};
+ghost use Rattle.judge.specs.Walk.{partOf, Holds, BlockIs, OwnEnd, Ready, PartsIn, Serves, TurnIs, startState, headAt, span, seenWith};
 ghost use Rattle.judge.specs.Judged.{findingsBy, judgedOf, judgedArea};
 
 // Where the IE lines of an II end that start at a position; the position itself for a line of another kind.
@@ -166,7 +166,7 @@ fn turn(
     requires { ⌜ Holds (now file) at st ⌝ }
     requires { ⌜ at < length (now file) ⌝ }
     requires { ⌜ length (now file) ≤ 5000000 ⌝ }
-    requires { ⌜ now index ≡ indexOf (now file) ⌝ }
+    requires { ⌜ Serves (now file) (now index) ⌝ }
     requires { ⌜ count ≤ 3 * at ⌝ }
     ensures { λ r. ⌜ TurnIs (settingBy today (now (book .entry)) q (foundIn (now (ledger .entry)) live)) (now (file .entry)) at st count (now (area .entry)) r (now (area .exit)) ⌝ }
 {
@@ -218,7 +218,7 @@ fn walk(
     area: &mut [u8],
 ) -> Walked
     requires { ⌜ length (now file) ≤ 5000000 ⌝ }
-    requires { ⌜ now index ≡ indexOf (now file) ⌝ }
+    requires { ⌜ Serves (now file) (now index) ⌝ }
     ensures { λ r. ⌜ r .findings ≡ length (findingsBy today (now (file .entry)) (now (book .entry)) q (now (ledger .entry)) live) ⌝ }
     ensures { λ r. ⌜ now (area .exit) ≡ areaAfter (now (area .entry)) (findingsBy today (now (file .entry)) (now (book .entry)) q (now (ledger .entry)) live) ⌝ }
     ensures { λ r. ⌜ r .declined ≡ count (isKind IN) (recs (now (file .entry))) ⌝ }
@@ -248,6 +248,19 @@ fn walk(
     Walked { findings, declined }
 }
 
+// How many places of the index of a file are to be asked for events named before: none where no two blocks name one event.
+fn places_asked(file: &[u8], index: &[u32]) -> usize
+    requires { ⌜ now index ≡ indexOf (now file) ⌝ }
+    ensures { λ r. ⌜ r ≤ length (now (index .entry)) ⌝ }
+    ensures { λ r. ⌜ Serves (now (file .entry)) (take r (now (index .entry))) ⌝ }
+{
+    if events::ascending(file, index) {
+        0
+    } else {
+        index.len()
+    }
+}
+
 // Judges a file: builds its index in the room lent, counts its findings, and writes those that fit in the area.
 pub fn judge(
     today: u32,
@@ -268,16 +281,8 @@ pub fn judge(
         Built::TooMany => Judged::TooMany,
         Built::Blocks(blocks) => {
             let from = 0;
-            let w = walk(
-                file,
-                &room[from..blocks],
-                ledger,
-                live,
-                book,
-                q,
-                today,
-                area,
-            );
+            let asked = places_asked(file, &room[from..blocks]);
+            let w = walk(file, &room[from..asked], ledger, live, book, q, today, area);
             Judged::Done {
                 blocks,
                 findings: w.findings,

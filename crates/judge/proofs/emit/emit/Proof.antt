@@ -12,4 +12,6 @@ emit-spec =
     (λ c. search for-emit)
     (λ c. search for-emit)
     (λ c. search for-emit)
+    (λ c. search for-emit)
+    (λ c. search for-emit)
     (λ c. search for-emit))
