@@ -10,7 +10,7 @@ use Rattle.rules.specs.Forms.{relaxedBy, isSound, isGiven}
 use Rattle.rules.specs.Blocks.{isInBlock, joins as Joins}
 use Rattle.rules.specs.Rules.{countsSound, setsDiffer}
 use Rattle.texts.specs.Leaves.{valueOf}
-use Rattle.forms.specs.Leaves.{lowestIn, numberLater, uliLater, dayLater, dateLater, versionLater, lotLater, antigenIs}
+use Rattle.forms.specs.Leaves.{lowestIn, numberLater, uliLater, dayLater, bornOf, dateLater, versionLater, lotLater, antigenIs}
 
 abbrev One : {A : Type 0} → A → Type 0
 One {A} x = (r q : A) → r ≡ x → q ≡ x → r ≡ q
@@ -42,8 +42,11 @@ uli-rule k t ip = one _
 day-rule : (t : Text) (today : ℕ) → One (lowestIn 3 false 25 t (dayLater t today))
 day-rule t today = one _
 
-date-rule : (k f : ℕ) (t : Text) (today : ℕ) (ip : Text) → One (lowestIn k false f t (dateLater t today (recOf ip)))
-date-rule k f t today ip = one _
+date-rule : (k f : ℕ) (t : Text) (today born : ℕ) → One (lowestIn k false f t (dateLater t today born))
+date-rule k f t today born = one _
+
+born : (ip : Text) → One (bornOf (recOf ip))
+born ip = one _
 
 version-rule : (t : Text) → One (lowestIn 1 false 2 t (versionLater t))
 version-rule t = one _

@@ -1,6 +1,6 @@
 -- What each need of the verdicts asks.
 -- Assumes nothing.
-use mathlib.Core.Path.{_≡_, sym, _∙_}
+use mathlib.Core.Path.{_≡_, refl, sym, _∙_}
 use mathlib.Core.Bool.{Bool, true, false, not, cond, _&&_}
 use mathlib.Core.List.{List, [], _∷_}
 use Prim.Native.Nat.{ℕ, _≤_, _<_}
@@ -16,10 +16,10 @@ use Rattle.house.specs.Dates.{isDate, datedOf}
 use Rattle.house.proofs.Small.{clash}
 use Rattle.house.proofs.DateLaws.{dated-true, dated-false}
 use Rattle.lines.specs.Lines.{fieldOf}
-use Rattle.lines.specs.Records.{Rec, recOf}
-use Rattle.rules.specs.Forms.{formOf, isUli, isJudged}
+use Rattle.lines.specs.Records.{Rec, IP, recOf}
+use Rattle.rules.specs.Forms.{formOf, isUli, isJudged, isSound}
 use Rattle.texts.specs.Leaves.{valueOf}
-use Rattle.forms.specs.Leaves.{optionalIn, lowestIn, numberLater, uliLater, dayLater, bornAfter, dateLater, versionLater, lotIs, lotLater}
+use Rattle.forms.specs.Leaves.{optionalIn, lowestIn, numberLater, uliLater, dayLater, bornOf, dateLater, versionLater, lotIs, lotLater}
 use Rattle.forms.proofs.FieldLaws.{text-is}
 use Rattle.forms.proofs.SoundLaws.{ip-3, ip-25}
 
@@ -63,23 +63,27 @@ pub ruleset for-number-later = (needs, number-right, number-wrong)
 pub ruleset for-number-rule = (needs, rule-broken, rule-later, number-by)
 
 -- uli_later
-module _ (t p u : Text) (f : u ≡ fieldOf p 3) (x : Bool) (e : x ≡ isUli u) where
-  pub uli-unsound : x ≡ false → 0 ≡ uliLater t (recOf p)
+module _ (t p u : Text) (f : u ≡ fieldOf p 3) (y : Bool) (g : y ≡ same t u) where
+  pub uli-same : y ≡ true → 0 ≡ uliLater t (recOf p)
   unfolding uliLater
-  uli-unsound h = rw (ip-3 (recOf p), text-is p 3, ← f, ← e, h)
+  uli-same k = rw (text-is p 3, ← f, ← g, k) (go (isSound IP (recOf p) 3))
+    where
+      go : (z : Bool) → _≡_ {A = ℕ} 0 (cond (z && false) 6 0)
+      go true = refl
+      go false = refl
 
-  module _ (h : x ≡ true) (y : Bool) (g : y ≡ same t u) where
-    pub uli-same : y ≡ true → 0 ≡ uliLater t (recOf p)
+  module _ (h : y ≡ false) (x : Bool) (e : x ≡ isUli u) where
+    pub uli-unsound : x ≡ false → 0 ≡ uliLater t (recOf p)
     unfolding uliLater
-    uli-same k = rw (ip-3 (recOf p), text-is p 3, ← f, ← e, h, ← g, k)
+    uli-unsound k = rw (ip-3 (recOf p), text-is p 3, ← f, ← e, k)
 
-    pub uli-other : y ≡ false → 6 ≡ uliLater t (recOf p)
+    pub uli-other : x ≡ true → 6 ≡ uliLater t (recOf p)
     unfolding uliLater
-    uli-other k = rw (ip-3 (recOf p), text-is p 3, ← f, ← e, h, ← g, k)
+    uli-other k = rw (ip-3 (recOf p), text-is p 3, ← f, ← e, k, ← g, h)
 
 pub ruleset for-uli-later = (needs, uli-unsound, uli-same, uli-other)
 
--- day_later, born_after, date_later
+-- day_later, born, date_later
 module _ (t : Text) (d : Dated) (e : d ≡ datedOf t) where
   module _ (x : Date) (h : d ≡ Day x) where
     day-is : number t ≡ x .number
@@ -102,36 +106,36 @@ module _ (t : Text) (d : Dated) (e : d ≡ datedOf t) where
       unfolding dayLater
       day-right k = rw (is-dated, day-is, le-ltb today (x .number) k)
 
-      module _ (p : Rec) where
-        pub date-after : today < x .number → 8 ≡ dateLater t today p
+      module _ (born : ℕ) where
+        pub date-after : today < x .number → 8 ≡ dateLater t today born
         unfolding dateLater
         date-after k = rw (is-dated, day-is, lt-ltb today (x .number) k)
 
-        module _ (k : x .number ≤ today) (y : Bool) (g : y ≡ bornAfter (x .number) p) where
-          pub date-before : y ≡ true → 8 ≡ dateLater t today p
+        module _ (k : x .number ≤ today) where
+          pub date-before : x .number < born → 8 ≡ dateLater t today born
           unfolding dateLater
-          date-before m = rw (is-dated, day-is, le-ltb today (x .number) k, ← g, m)
+          date-before m = rw (is-dated, day-is, le-ltb today (x .number) k, lt-ltb (x .number) born m)
 
-          pub date-right : y ≡ false → 0 ≡ dateLater t today p
+          pub date-right : born ≤ x .number → 0 ≡ dateLater t today born
           unfolding dateLater
-          date-right m = rw (is-dated, day-is, le-ltb today (x .number) k, ← g, m)
+          date-right m = rw (is-dated, day-is, le-ltb today (x .number) k, le-ltb (x .number) born m)
 
   module _ (h : d ≡ NoDate) (today : ℕ) where
     pub day-none : 0 ≡ dayLater t today
     unfolding dayLater
     day-none = rw (dated-false t (sym e ∙ h))
 
-    pub date-none : (p : Rec) → 0 ≡ dateLater t today p
+    pub date-none : (born : ℕ) → 0 ≡ dateLater t today born
     unfolding dateLater
-    date-none p = rw (dated-false t (sym e ∙ h))
+    date-none born = rw (dated-false t (sym e ∙ h))
 
-module _ (p t : Text) (f : t ≡ fieldOf p 25) (d : Dated) (e : d ≡ datedOf t) (n : ℕ) where
-  pub born-day : (x : Date) → d ≡ Day x → ltb n (x .number) ≡ bornAfter n (recOf p)
-  unfolding bornAfter
+module _ (p t : Text) (f : t ≡ fieldOf p 25) (d : Dated) (e : d ≡ datedOf t) where
+  pub born-day : (x : Date) → d ≡ Day x → x .number ≡ bornOf (recOf p)
+  unfolding bornOf
   born-day x h = rw (ip-25 (recOf p), text-is p 25, ← f, is-dated t d e x h, day-is t d e x h)
 
-  pub born-none : d ≡ NoDate → false ≡ bornAfter n (recOf p)
-  unfolding bornAfter
+  pub born-none : d ≡ NoDate → 0 ≡ bornOf (recOf p)
+  unfolding bornOf
   born-none h = rw (ip-25 (recOf p), text-is p 25, ← f, dated-false t (sym e ∙ h))
 
 pub ruleset for-day-later = (needs, day-after, day-right, day-none)

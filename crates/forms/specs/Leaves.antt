@@ -47,12 +47,13 @@ uliLater t ip = cond (isSound IP ip 3 && not (same t (text ip 3))) 6 0
 unfoldable pub dayLater : Text → ℕ → ℕ
 dayLater t today = cond (isDate t && ltb today (number t)) 8 0
 
--- rule 8: a date after today or before its IP 25
-unfoldable pub bornAfter : ℕ → Rec → Bool
-bornAfter n ip = isSound IP ip 25 && ltb n (number (text ip 25))
+-- the day of birth that an IP gives, 0 where it gives none
+unfoldable pub bornOf : Rec → ℕ
+bornOf ip = cond (isSound IP ip 25) (number (text ip 25)) 0
 
-unfoldable pub dateLater : Text → ℕ → Rec → ℕ
-dateLater t today ip = cond (isDate t && (ltb today (number t) || bornAfter (number t) ip)) 8 0
+-- rule 8: a date after today or before the day of birth
+unfoldable pub dateLater : Text → ℕ → ℕ → ℕ
+dateLater t today born = cond (isDate t && (ltb today (number t) || ltb (number t) born)) 8 0
 
 -- rule 3: a version that is not 7.2
 unfoldable pub versionLater : Text → ℕ

@@ -14,6 +14,7 @@ pub use fields::relaxed;
 pub use lists::any_antigen;
 pub use lists::counts_sound;
 pub use lists::sets_differ;
+pub use verdicts::born;
 pub use verdicts::date_rule;
 pub use verdicts::day_rule;
 pub use verdicts::lot_rule;

@@ -10,7 +10,7 @@ ghost use mathlib.Core.Bool.{false};
 ghost use mathlib.Core.Path.{_≡_};
 ghost use Rattle.lines.specs.Records.{recOf, recs};
 ghost use Rattle.texts.specs.Leaves.{valueOf};
-ghost use Rattle.forms.specs.Leaves.{lowestIn, numberLater, uliLater, dayLater, bornAfter, dateLater, versionLater, lotLater};
+ghost use Rattle.forms.specs.Leaves.{lowestIn, numberLater, uliLater, dayLater, bornOf, dateLater, versionLater, lotLater};
 
 // Rule 7, of a number and its place.
 fn number_later(n: u32, place: usize) -> u8
@@ -35,11 +35,10 @@ fn uli_later(t: &[u8], ip: &[u8]) -> u8
     ensures { λ r. ⌜ r ≡ uliLater (now (t .entry)) (recOf (now (ip .entry))) ⌝ }
 {
     let uli = lines::field_of(ip, 3);
-    if is_uli(uli) {
-        if house::same(t, uli) { 0 } else { 6 }
-    } else {
-        0
+    if house::same(t, uli) {
+        return 0;
     }
+    if is_uli(uli) { 6 } else { 0 }
 }
 
 // Field 3 of a line below an IP: rules 1, 2 and 6.
@@ -75,20 +74,20 @@ pub fn day_rule(t: &[u8], today: u32) -> u8
     day_later(t, today)
 }
 
-// Whether a day lies before a sound IP 25.
-fn born_after(n: u32, ip: &[u8]) -> bool
-    ensures { λ r. ⌜ r ≡ bornAfter n (recOf (now (ip .entry))) ⌝ }
+// The day of birth that an IP gives, 0 where it gives none.
+pub fn born(ip: &[u8]) -> u32
+    ensures { λ r. ⌜ r ≡ bornOf (recOf (now (ip .entry))) ⌝ }
 {
     let d = house::Date::of(lines::field_of(ip, 25));
     match d {
-        house::Dated::Day(day) => n < day.number,
-        house::Dated::NoDate => false,
+        house::Dated::Day(day) => day.number,
+        house::Dated::NoDate => 0,
     }
 }
 
-// Rule 8, of a date, today and the IP.
-fn date_later(t: &[u8], today: u32, ip: &[u8]) -> u8
-    ensures { λ r. ⌜ r ≡ dateLater (now (t .entry)) today (recOf (now (ip .entry))) ⌝ }
+// Rule 8, of a date, today and the day of birth.
+fn date_later(t: &[u8], today: u32, born: u32) -> u8
+    ensures { λ r. ⌜ r ≡ dateLater (now (t .entry)) today born ⌝ }
 {
     let d = house::Date::of(t);
     match d {
@@ -97,21 +96,21 @@ fn date_later(t: &[u8], today: u32, ip: &[u8]) -> u8
             if today < n {
                 return 8;
             }
-            if born_after(n, ip) { 8 } else { 0 }
+            if n < born { 8 } else { 0 }
         }
         house::Dated::NoDate => 0,
     }
 }
 
 // II 6, IN 5: rules 1, 2 and 8.
-pub fn date_rule(kind: u8, f: usize, t: &[u8], today: u32, ip: &[u8]) -> u8
-    ensures { λ r. ⌜ r ≡ lowestIn kind false f (now (t .entry)) (dateLater (now (t .entry)) today (recOf (now (ip .entry)))) ⌝ }
+pub fn date_rule(kind: u8, f: usize, t: &[u8], today: u32, born: u32) -> u8
+    ensures { λ r. ⌜ r ≡ lowestIn kind false f (now (t .entry)) (dateLater (now (t .entry)) today born) ⌝ }
 {
     let r = basic_rule(kind, false, f, t);
     if r != 0 {
         return r;
     }
-    date_later(t, today, ip)
+    date_later(t, today, born)
 }
 
 // Rule 3, of a version.

@@ -7,7 +7,7 @@ use mathlib.Core.List.{List, []}
 use Prim.Native.Nat.{ℕ, _≤_}
 use native.Mathlib.Omega.{arith}
 use borrow.Author.Needs.{needs}
-use borrow.Author.Tests.{le-leb, leb-true}
+use borrow.Author.Tests.{le-leb, leb-true, le-ltb}
 use lib.Dec.{eqb, ltb, leb}
 use lib.ListN.{length}
 use Rattle.house.specs.Text.{Text, bytes, same, all, run, within, number, isEmpty, isDigit}
@@ -22,7 +22,7 @@ use Rattle.rules.specs.Seen.{Setting, Seen}
 use Rattle.rules.specs.Codes.{bookKind, codeRead, codeIn, dayIsSound, recordDay, isInForce}
 use Rattle.rules.specs.Rules.{afterToday, beforeBirth, brokenAt}
 use Rattle.texts.specs.Leaves.{valueOf}
-use Rattle.forms.specs.Leaves.{lowest, lowestIn, numberLater, uliLater, dayLater, bornAfter, dateLater, versionLater}
+use Rattle.forms.specs.Leaves.{lowest, lowestIn, numberLater, uliLater, dayLater, bornOf, dateLater, versionLater}
 use Rattle.forms.proofs.FieldLaws.{text-is, lowest-of, lowest-either}
 use Rattle.later.specs.declared.Broken.{Broken}
 use Rattle.later.specs.declared.Day.{Day}
@@ -63,8 +63,8 @@ uliRule k l ip = lowest k l 3 (uliLater (text l 3) ip)
 abbrev dayRule : Rec → ℕ → ℕ
 dayRule l today = lowest IP l 25 (dayLater (text l 25) today)
 
-abbrev dateRule : ℕ → Rec → ℕ → ℕ → Rec → ℕ
-dateRule k l f today ip = lowest k l f (dateLater (text l f) today ip)
+abbrev dateRule : ℕ → Rec → ℕ → ℕ → ℕ → ℕ
+dateRule k l f today born = lowest k l f (dateLater (text l f) today born)
 
 abbrev versionRule : Rec → ℕ
 versionRule l = lowest IV l 2 (versionLater (text l 2))
@@ -109,15 +109,24 @@ value-is t h =
     let m : length t ≤ 5 = leb-true (length t) 5 (r .1) in
     value-read t (leb-true 1 (length t) (r .0)) (omega arith) (q .1)
 
+-- a day lies before the day of birth exactly if IP 25 is sound and after it
+born-before : (n : ℕ) (ip : Rec) → ltb n (bornOf ip) ≡ isSound IP ip 25 && ltb n (number (text ip 25))
+unfolding bornOf
+born-before n ip = go (isSound IP ip 25)
+  where
+    go : (t : Bool) → ltb n (cond t (number (text ip 25)) 0) ≡ t && ltb n (number (text ip 25))
+    go true = refl
+    go false = le-ltb n 0 (omega arith)
+
 module _ (k : ℕ) (l : Rec) where
   number-is : (place : ℕ) → (isSound k l 2 ≡ true → isNumber (text l 2) ≡ true) → numberRule k l place ≡ lowest k l 2 (cond (not (eqb (number (text l 2)) place)) 7 0)
   unfolding numberLater
   number-is place h = low-same k l 2 _ _ (λ z. rw (value-is (text l 2) (h z)) (flip (eqb (number (text l 2)) place) 7))
 
   date-is : (f today : ℕ) (ip : Rec) → (isSound k l f ≡ true → isDate (text l f) ≡ true)
-      → dateRule k l f today ip ≡ lowest k l f (cond (ltb today (number (text l f)) || bornAfter (number (text l f)) ip) 8 0)
+      → dateRule k l f today (bornOf ip) ≡ lowest k l f (cond (ltb today (number (text l f)) || (isSound IP ip 25 && ltb (number (text l f)) (number (text ip 25)))) 8 0)
   unfolding dateLater
-  date-is f today ip h = low-same k l f _ _ (λ z. rw (h z))
+  date-is f today ip h = low-same k l f _ _ (λ z. rw (h z, born-before (number (text l f)) ip))
 
 -- THE ANSWER AT A FIELD
 
@@ -267,71 +276,71 @@ module _ (b : Broken) (x : ℕ) (p : b ≡ broken x 0 0) (line ip : Text) (s : S
       answer b x _ _ p (z ∙ by-either k line t 3 d (λ (u : Text). uliLater u (recOf ip)) false o ∙ ap (λ (l : Rec). uliRule k l (recOf ip)) (sym lv) ∙ ap (uliRule k (v .line)) (sym iv))
       (sound-at s v k 3 (kind-at b x p line s v lv k e) (isSound IP (v .ip) 3 && not (same (text (v .line) 3) (text (v .ip) 3))) 6 refl h)
 
-  pub date-at : (f today : ℕ) → s .today ≡ today → (t : Text) → t ≡ fieldOf line f → eqb k II && within 9 15 f ≡ false
-      → x ≡ lowestIn k false f t (dateLater t today (recOf ip)) → (isSound k (v .line) f ≡ true → isDate (text (v .line) f) ≡ true)
+  pub date-at : (born : ℕ) → bornOf (v .ip) ≡ born → (f today : ℕ) → s .today ≡ today → (t : Text) → t ≡ fieldOf line f → eqb k II && within 9 15 f ≡ false
+      → x ≡ lowestIn k false f t (dateLater t today born) → (isSound k (v .line) f ≡ true → isDate (text (v .line) f) ≡ true)
       → laterAt s v f ≡ sounds (v .line) k f (afterToday s v f || beforeBirth v f) 8 → listed b ≡ brokenAt s v f
-  unfolding afterToday beforeBirth bornAfter
-  date-at f today tv t d o z i h =
+  unfolding afterToday beforeBirth
+  date-at born bv f today tv t d o z i h =
       answer b x _ _ p
       (z
-      ∙ by-either k line t f d (λ (u : Text). dateLater u today (recOf ip)) false o
-      ∙ ap (λ (l : Rec). dateRule k l f today (recOf ip)) (sym lv)
-      ∙ ap (dateRule k (v .line) f today) (sym iv)
-      ∙ ap (λ (n : ℕ). dateRule k (v .line) f n (v .ip)) (sym tv)
+      ∙ by-either k line t f d (λ (u : Text). dateLater u today born) false o
+      ∙ ap (λ (l : Rec). dateRule k l f today born) (sym lv)
+      ∙ ap (dateRule k (v .line) f today) (sym bv)
+      ∙ ap (λ (n : ℕ). dateRule k (v .line) f n (bornOf (v .ip))) (sym tv)
       ∙ date-is k (v .line) f (s .today) (v .ip) i)
       (sound-at s v k f (kind-at b x p line s v lv k e) (afterToday s v f || beforeBirth v f) 8 refl h)
 
-module _ (b : Broken) (x : ℕ) (line t ip book : Text) (q : Sections) (place : ℕ) (day : Day) (today f : ℕ) (p : b ≡ broken x 0 0) (dt : t ≡ fieldOf line f) where
+module _ (b : Broken) (x : ℕ) (line t ip book : Text) (q : Sections) (place born : ℕ) (day : Day) (today f : ℕ) (p : b ≡ broken x 0 0) (dt : t ≡ fieldOf line f) where
   -- IN
   module _ (e : recordOf line ≡ 6) where
-    pub need-in-2 : f ≡ 2 → x ≡ lowestIn 6 false 2 t (numberLater (valueOf t) place) → (s : Setting) (v : Seen) → Looks today book q s → Shows place line ip v → DayIs day v → listed b ≡ brokenAt s v f
+    pub need-in-2 : f ≡ 2 → x ≡ lowestIn 6 false 2 t (numberLater (valueOf t) place) → (s : Setting) (v : Seen) → Looks today book q s → Shows place born line ip v → DayIs day v → listed b ≡ brokenAt s v f
     unfolding isJudged isOptional formOf table
     need-in-2 h z s v ls sh d =
         rw h
         (number-at b x p line s v (sh .line-is) 6 place e (sh .place-is) t (dt ∙ ap (fieldOf line) h) z refl (mandatory 6 (v .line) 2 (isNumber (text (v .line) 2)) refl refl refl)
         (in-2 s v (kind-at b x p line s v (sh .line-is) 6 e)))
 
-    pub need-in-3 : f ≡ 3 → x ≡ lowestIn 6 false 3 t (uliLater t (recOf ip)) → (s : Setting) (v : Seen) → Looks today book q s → Shows place line ip v → DayIs day v → listed b ≡ brokenAt s v f
+    pub need-in-3 : f ≡ 3 → x ≡ lowestIn 6 false 3 t (uliLater t (recOf ip)) → (s : Setting) (v : Seen) → Looks today book q s → Shows place born line ip v → DayIs day v → listed b ≡ brokenAt s v f
     need-in-3 h z s v ls sh d = rw h (uli-at b x p line ip s v (sh .line-is) (sh .ip-is) 6 e t (dt ∙ ap (fieldOf line) h) refl z (in-3 s v (kind-at b x p line s v (sh .line-is) 6 e)))
 
-    pub need-in-5 : f ≡ 5 → x ≡ lowestIn 6 false 5 t (dateLater t today (recOf ip)) → (s : Setting) (v : Seen) → Looks today book q s → Shows place line ip v → DayIs day v → listed b ≡ brokenAt s v f
+    pub need-in-5 : f ≡ 5 → x ≡ lowestIn 6 false 5 t (dateLater t today born) → (s : Setting) (v : Seen) → Looks today book q s → Shows place born line ip v → DayIs day v → listed b ≡ brokenAt s v f
     unfolding isJudged isOptional formOf table
     need-in-5 h z s v ls sh d =
         rw h
-        (date-at b x p line ip s v (sh .line-is) (sh .ip-is) 6 e 5 today (ls .today-is) t (dt ∙ ap (fieldOf line) h) refl z (mandatory 6 (v .line) 5 (isDate (text (v .line) 5)) refl refl refl)
+        (date-at b x p line ip s v (sh .line-is) (sh .ip-is) 6 e born (sh .born-is) 5 today (ls .today-is) t (dt ∙ ap (fieldOf line) h) refl z (mandatory 6 (v .line) 5 (isDate (text (v .line) 5)) refl refl refl)
         (in-5 s v (kind-at b x p line s v (sh .line-is) 6 e)))
 
     pub need-in-6 : f ≡ 6 → x ≡ lowestIn 6 false 6 t (codeOf 6 t book q day t)
-        → (s : Setting) (v : Seen) → Looks today book q s → Shows place line ip v → DayIs day v → listed b ≡ brokenAt s v f
+        → (s : Setting) (v : Seen) → Looks today book q s → Shows place born line ip v → DayIs day v → listed b ≡ brokenAt s v f
     unfolding codeIn bookKind codeRead
     need-in-6 h z s v ls sh d =
         rw h (code-need b x p line s v (sh .line-is) 6 6 6 e (code-is x line s v (sh .line-is) today book q day ls d 6 6 6 t false (dt ∙ ap (fieldOf line) h) refl z (inl refl)) (in-6 s v (kind-at b x p line s v (sh .line-is) 6 e)))
 
     pub need-in-rest : (f ≡ 2 → ⊥) → (f ≡ 3 → ⊥) → (f ≡ 5 → ⊥) → (f ≡ 6 → ⊥) → x ≡ lowestIn 6 false f t 0
-        → (s : Setting) (v : Seen) → Looks today book q s → Shows place line ip v → DayIs day v → listed b ≡ brokenAt s v f
+        → (s : Setting) (v : Seen) → Looks today book q s → Shows place born line ip v → DayIs day v → listed b ≡ brokenAt s v f
     need-in-rest n2 n3 n5 n6 z s v ls sh d =
         plain-either b x p line s v (sh .line-is) 6 f t false dt z e (in-rest s v f (kind-at b x p line s v (sh .line-is) 6 e) n2 n3 n5 n6) refl
 
   -- IA
   module _ (e : recordOf line ≡ 7) where
-    pub need-ia-2 : f ≡ 2 → x ≡ lowestIn 7 false 2 t (numberLater (valueOf t) place) → (s : Setting) (v : Seen) → Looks today book q s → Shows place line ip v → DayIs day v → listed b ≡ brokenAt s v f
+    pub need-ia-2 : f ≡ 2 → x ≡ lowestIn 7 false 2 t (numberLater (valueOf t) place) → (s : Setting) (v : Seen) → Looks today book q s → Shows place born line ip v → DayIs day v → listed b ≡ brokenAt s v f
     unfolding isJudged isOptional formOf table
     need-ia-2 h z s v ls sh d =
         rw h
         (number-at b x p line s v (sh .line-is) 7 place e (sh .place-is) t (dt ∙ ap (fieldOf line) h) z refl (mandatory 7 (v .line) 2 (isNumber (text (v .line) 2)) refl refl refl)
         (ia-2 s v (kind-at b x p line s v (sh .line-is) 7 e)))
 
-    pub need-ia-3 : f ≡ 3 → x ≡ lowestIn 7 false 3 t (uliLater t (recOf ip)) → (s : Setting) (v : Seen) → Looks today book q s → Shows place line ip v → DayIs day v → listed b ≡ brokenAt s v f
+    pub need-ia-3 : f ≡ 3 → x ≡ lowestIn 7 false 3 t (uliLater t (recOf ip)) → (s : Setting) (v : Seen) → Looks today book q s → Shows place born line ip v → DayIs day v → listed b ≡ brokenAt s v f
     need-ia-3 h z s v ls sh d = rw h (uli-at b x p line ip s v (sh .line-is) (sh .ip-is) 7 e t (dt ∙ ap (fieldOf line) h) refl z (ia-3 s v (kind-at b x p line s v (sh .line-is) 7 e)))
 
     pub need-ia-4 : f ≡ 4 → x ≡ lowestIn 7 false 4 t (codeOf 2 t book q day t)
-        → (s : Setting) (v : Seen) → Looks today book q s → Shows place line ip v → DayIs day v → listed b ≡ brokenAt s v f
+        → (s : Setting) (v : Seen) → Looks today book q s → Shows place born line ip v → DayIs day v → listed b ≡ brokenAt s v f
     unfolding codeIn bookKind codeRead
     need-ia-4 h z s v ls sh d =
         rw h (code-need b x p line s v (sh .line-is) 7 4 2 e (code-is x line s v (sh .line-is) today book q day ls d 7 4 2 t false (dt ∙ ap (fieldOf line) h) refl z (inl refl)) (ia-4 s v (kind-at b x p line s v (sh .line-is) 7 e)))
 
     pub need-ia-rest : (f ≡ 2 → ⊥) → (f ≡ 3 → ⊥) → (f ≡ 4 → ⊥) → x ≡ lowestIn 7 false f t 0
-        → (s : Setting) (v : Seen) → Looks today book q s → Shows place line ip v → DayIs day v → listed b ≡ brokenAt s v f
+        → (s : Setting) (v : Seen) → Looks today book q s → Shows place born line ip v → DayIs day v → listed b ≡ brokenAt s v f
     need-ia-rest n2 n3 n4 z s v ls sh d =
         plain-either b x p line s v (sh .line-is) 7 f t false dt z e (ia-rest s v f (kind-at b x p line s v (sh .line-is) 7 e) n2 n3 n4) refl
 

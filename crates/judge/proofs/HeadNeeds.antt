@@ -57,10 +57,10 @@ three-same a a2 b b2 c c2 p q r = rw (p, q, r)
 
 -- IE
 
-module _ (line t ip head since book : Text) (q : Sections) (place : ℕ) (day : Day) (today f : ℕ) (b : Broken) (dt : t ≡ fieldOf line f) (e : recordOf line ≡ 5) where
+module _ (line t ip head since book : Text) (q : Sections) (place born : ℕ) (day : Day) (today f : ℕ) (b : Broken) (dt : t ≡ fieldOf line f) (e : recordOf line ≡ 5) where
   module _ (x : ℕ) (p : b ≡ broken x 0 0) where
     pub need-ie-2 : f ≡ 2 → x ≡ lowestIn 5 false 2 t (numberLater (valueOf t) place)
-        → (s : Setting) (v : Seen) → Looks today book q s → Shows place line ip v → DayIs day v → v .head ≡ recOf head → v .antigens ≡ reverse (recs since) → listed b ≡ brokenAt s v f
+        → (s : Setting) (v : Seen) → Looks today book q s → Shows place born line ip v → DayIs day v → v .head ≡ recOf head → v .antigens ≡ reverse (recs since) → listed b ≡ brokenAt s v f
     unfolding isJudged isOptional formOf table
     need-ie-2 h z s v ls sh d hv av =
         rw h
@@ -68,15 +68,15 @@ module _ (line t ip head since book : Text) (q : Sections) (place : ℕ) (day : 
         (ie-2 s v (kind-at b x p line s v (sh .line-is) 5 e)))
 
     pub need-ie-3 : f ≡ 3 → x ≡ lowestIn 5 false 3 t (uliLater t (recOf ip))
-        → (s : Setting) (v : Seen) → Looks today book q s → Shows place line ip v → DayIs day v → v .head ≡ recOf head → v .antigens ≡ reverse (recs since) → listed b ≡ brokenAt s v f
+        → (s : Setting) (v : Seen) → Looks today book q s → Shows place born line ip v → DayIs day v → v .head ≡ recOf head → v .antigens ≡ reverse (recs since) → listed b ≡ brokenAt s v f
     need-ie-3 h z s v ls sh d hv av = rw h (uli-at b x p line ip s v (sh .line-is) (sh .ip-is) 5 e t (dt ∙ ap (fieldOf line) h) refl z (ie-3 s v (kind-at b x p line s v (sh .line-is) 5 e)))
 
     pub need-ie-rest : (f ≡ 2 → ⊥) → (f ≡ 3 → ⊥) → (f ≡ 4 → ⊥) → x ≡ lowestIn 5 false f t 0
-        → (s : Setting) (v : Seen) → Looks today book q s → Shows place line ip v → DayIs day v → v .head ≡ recOf head → v .antigens ≡ reverse (recs since) → listed b ≡ brokenAt s v f
+        → (s : Setting) (v : Seen) → Looks today book q s → Shows place born line ip v → DayIs day v → v .head ≡ recOf head → v .antigens ≡ reverse (recs since) → listed b ≡ brokenAt s v f
     need-ie-rest n2 n3 n4 z s v ls sh d hv av =
         plain-either b x p line s v (sh .line-is) 5 f t false dt z e (ie-rest s v f (kind-at b x p line s v (sh .line-is) 5 e) n2 n3 n4) refl
 
-  module _ (s : Setting) (v : Seen) (ls : Looks today book q s) (sh : Shows place line ip v) (d : DayIs day v) (hv : v .head ≡ recOf head) (av : v .antigens ≡ reverse (recs since)) where
+  module _ (s : Setting) (v : Seen) (ls : Looks today book q s) (sh : Shows place born line ip v) (d : DayIs day v) (hv : v .head ≡ recOf head) (av : v .antigens ≡ reverse (recs since)) where
     kind-ie : v .line .kind ≡ IE
     unfolding recOf
     kind-ie = ap (λ (l : Rec). l .kind) (sh .line-is) ∙ e
@@ -130,7 +130,7 @@ module _ (line t ip head since book : Text) (q : Sections) (place : ℕ) (day : 
         (ie-4 s v kind-ie))
 
   pub need-ie-4 : f ≡ 4 → b ≡ antigenAt line head since t book q day
-      → (s : Setting) (v : Seen) → Looks today book q s → Shows place line ip v → DayIs day v → v .head ≡ recOf head → v .antigens ≡ reverse (recs since) → listed b ≡ brokenAt s v f
+      → (s : Setting) (v : Seen) → Looks today book q s → Shows place born line ip v → DayIs day v → v .head ≡ recOf head → v .antigens ≡ reverse (recs since) → listed b ≡ brokenAt s v f
   need-ie-4 h p s v ls sh d hv av =
       rw (h, p) (ap (λ (u : Text). listed (antigenAt line head since u book q day)) (dt ∙ ap (fieldOf line) h) ∙ at-4 s v ls sh d hv av)
 

@@ -50,9 +50,9 @@ pub ruleset for-relaxed-of = (needs, relaxed-ii, relaxed-no)
 pub relaxed-told : (k : ℕ) (line : Text) (x : Bool) → (k ≡ 4 → x ≡ isRelaxed (recOf line)) → k ≡ 4 → x ≡ isRelaxed (recOf line)
 relaxed-told k line x h z = h z
 
-module _ (today : ℕ) (book : Text) (q : Sections) (place : ℕ) (line ip head since block own first : Text) (day : Day) (facts : Facts) (f : ℕ) (r : Broken) where
+module _ (today : ℕ) (book : Text) (q : Sections) (place born : ℕ) (line ip head since block own first : Text) (day : Day) (facts : Facts) (f : ℕ) (r : Broken) where
   abbrev Judges : Type 0
-  Judges = (s : Setting) (v : Seen) → Told today book q place line ip head since block own first day facts s v → listed r ≡ brokenAt s v f
+  Judges = (s : Setting) (v : Seen) → Told today book q place born line ip head since block own first day facts s v → listed r ≡ brokenAt s v f
 
   pub field-iv : ((s : Setting) (v : Seen) → v .line ≡ recOf line → listed r ≡ brokenAt s v f) → Judges
   field-iv h s v t = h s v (t .shows .line-is)
@@ -61,15 +61,15 @@ module _ (today : ℕ) (book : Text) (q : Sections) (place : ℕ) (line ip head 
   field-ip h s v t = h s v (t .shows .line-is) (t .shows .place-is) (t .looks .today-is)
 
   pub field-ii : (k : ℕ) → k ≡ recordOf line → k ≡ 4
-      → ((s : Setting) (v : Seen) → Looks today book q s → Shows place line ip v → DayIs day v → Blocked facts line block own first v → listed r ≡ brokenAt s v f) → Judges
+      → ((s : Setting) (v : Seen) → Looks today book q s → Shows place born line ip v → DayIs day v → Blocked facts line block own first v → listed r ≡ brokenAt s v f) → Judges
   field-ii k e z h s v t = h s v (t .looks) (t .shows) (t .day-is (rw (sym e ∙ z))) (t .blocked (sym e ∙ z))
 
   pub field-ie : (k : ℕ) → k ≡ recordOf line → k ≡ 5
-      → ((s : Setting) (v : Seen) → Looks today book q s → Shows place line ip v → DayIs day v → v .head ≡ recOf head → v .antigens ≡ reverse (recs since) → listed r ≡ brokenAt s v f) → Judges
+      → ((s : Setting) (v : Seen) → Looks today book q s → Shows place born line ip v → DayIs day v → v .head ≡ recOf head → v .antigens ≡ reverse (recs since) → listed r ≡ brokenAt s v f) → Judges
   field-ie k e z h s v t = h s v (t .looks) (t .shows) (t .day-is (rw (sym e ∙ z))) (t .head-is) (t .antigens-are)
 
   abbrev Dated : Type 0
-  Dated = (s : Setting) (v : Seen) → Looks today book q s → Shows place line ip v → DayIs day v → listed r ≡ brokenAt s v f
+  Dated = (s : Setting) (v : Seen) → Looks today book q s → Shows place born line ip v → DayIs day v → listed r ≡ brokenAt s v f
 
   pub field-in : (k : ℕ) → k ≡ recordOf line → k ≡ 6 → Dated → Judges
   field-in k e z h s v t = h s v (t .looks) (t .shows) (t .day-is (rw (sym e ∙ z)))
@@ -88,7 +88,7 @@ module _ (today : ℕ) (book : Text) (q : Sections) (place : ℕ) (line ip head 
 pub ruleset for-judge-field = (needs, relaxed-told, field-iv, field-ip, field-ii, field-ie, field-in, field-ia, field-other)
 
 -- judge_fields
-module _ (today : ℕ) (book : Text) (q : Sections) (place : ℕ) (line ip head since block own first : Text) (day : Day) (facts : Facts) (n count : ℕ) (area₀ : Text) where
+module _ (today : ℕ) (book : Text) (q : Sections) (place born : ℕ) (line ip head since block own first : Text) (day : Day) (facts : Facts) (n count : ℕ) (area₀ : Text) where
   -- what is left of a line's findings, from field f on
   pub record Going (fields at f c : ℕ) (area : Text) : Type 0 where
     pub all : fields ≡ length (fieldsOf line)
@@ -99,7 +99,7 @@ module _ (today : ℕ) (book : Text) (q : Sections) (place : ℕ) (line ip head 
     pub size : length area ≡ length area₀
     -- the field starts there
     pub cut : fieldsOf (drop at line) ≡ drop (f - 1) (fieldsOf line)
-    pub left : (s : Setting) (v : Seen) → Told today book q place line ip head since block own first day facts s v
+    pub left : (s : Setting) (v : Seen) → Told today book q place born line ip head since block own first day facts s v
         → keep (fieldsFindings s n v 1 (length (fieldsOf line))) (kept count area₀) ≡ keep (fieldsFindings s n v f (fields + 1 - f)) (kept c area)
 
   pub going-start : (fields : ℕ) → fields ≡ length (fieldsOf line) → count + 3 * length (fieldsOf line) < 2 ^ 63 → Going fields 0 1 count area₀
@@ -109,7 +109,7 @@ module _ (today : ℕ) (book : Text) (q : Sections) (place : ℕ) (line ip head 
       add-sub-one m = omega arith
 
   module _ (fields at f c : ℕ) (area : Text) (g : Going fields at f c area) where
-    pub going-end : fields < f → (s : Setting) (v : Seen) → Told today book q place line ip head since block own first day facts s v
+    pub going-end : fields < f → (s : Setting) (v : Seen) → Told today book q place born line ip head since block own first day facts s v
         → kept c area ≡ keep (fieldsFindings s n v 1 (length (fieldsOf line))) (kept count area₀)
     going-end h s v t = line-end s n v _ f (fields + 1 - f) c area (g .left s v t) (omega arith)
 
@@ -137,7 +137,7 @@ module _ (today : ℕ) (book : Text) (q : Sections) (place : ℕ) (line ip head 
         pub going-text : t ≡ fieldOf line f
         going-text = z ∙ next-text line at (f - 1) (g .cut) before ∙ ap (fieldOf line) step
 
-        pub going-on : (b : Broken) (d : ℕ) (y : Text) → ((s : Setting) (v : Seen) → Told today book q place line ip head since block own first day facts s v → listed b ≡ brokenAt s v f)
+        pub going-on : (b : Broken) (d : ℕ) (y : Text) → ((s : Setting) (v : Seen) → Told today book q place born line ip head since block own first day facts s v → listed b ≡ brokenAt s v f)
             → kept d y ≡ keep (found n f (listed b)) (kept c area) → d ≤ c + 3 → length y ≡ length area → (next : ℕ) → next ≡ at + length t + 1 → Going fields next (f + 1) d y
         going-on b d y i m l o next nx =
             record {

@@ -1,6 +1,6 @@
 -- What each need of the functions on a line's place asks: its day, what is known of it, and the pass over the file.
 -- Assumes nothing.
-use mathlib.Core.Path.{_≡_, refl, sym, ap, _∙_}
+use mathlib.Core.Path.{_≡_, refl, sym, ap, _∙_, subst}
 use mathlib.Core.Bool.{Bool, true, false, cond, _&&_}
 use mathlib.Core.List.{List}
 use Prim.Native.Nat.{ℕ, _+_, _-_, _*_, _^_, _≤_, _<_}
@@ -16,7 +16,7 @@ use Rattle.house.specs.Dates.{isDate, isDay}
 use Rattle.house.proofs.Small.{both}
 use Rattle.lines.specs.declared.LineAt.{LineAt}
 use Rattle.lines.specs.Lines.{LineIs, fieldOf, fieldsOf}
-use Rattle.lines.specs.Records.{Rec, II, IE, IA, isKind, recordOf, recOf, recs}
+use Rattle.lines.specs.Records.{Rec, II, IE, IN, IA, isKind, recordOf, recOf, recs}
 use Rattle.lines.specs.Inside.{part, whole}
 use Rattle.lines.proofs.FieldLaws.{fields-few}
 use Rattle.ledger.specs.Ledger.{foundIn}
@@ -27,18 +27,20 @@ use Rattle.rules.specs.Seen.{Setting, Seen}
 use Rattle.rules.specs.Codes.{dayField, dayIsSound, recordDay}
 use Rattle.rules.specs.Findings.{fieldsFindings}
 use Rattle.texts.specs.Leaves.{valueOf}
+use Rattle.forms.specs.Leaves.{bornOf}
 use Rattle.forms.proofs.FieldLaws.{text-is}
 use Rattle.forms.proofs.SoundLaws.{ii-6, in-5}
 use Rattle.index.specs.Firsts.{foundBefore}
 use Rattle.book.specs.declared.Sections.{Sections}
 use Rattle.judge.specs.declared.Span.{Span}
+use Rattle.judge.specs.declared.Known.{Known}
 use Rattle.judge.specs.declared.State.{State}
 use Rattle.judge.specs.declared.BlockAt.{BlockAt}
 use Rattle.later.specs.declared.Day.{Day}
 use Rattle.later.specs.declared.Facts.{Facts}
 use Rattle.judge.specs.Inside.{kept, keep}
-use Rattle.judge.specs.Walk.{partOf, span, Holds, OwnIs, OwnEnd, Ready, PartsIn, headAt, seenBy, seenWith, factsBy}
-use Rattle.judge.specs.Fields.{dayIn, dayBy, DayIs, Looks, Told}
+use Rattle.judge.specs.Walk.{partOf, span, Holds, OwnIs, OwnEnd, Ready, PartsIn, headAt, dayBy, seenBy, seenWith, factsBy}
+use Rattle.judge.specs.Fields.{dayFrom, dayIn, headDay, DayIs, Looks, Told}
 use Rattle.judge.proofs.StepLaws.{holds-step}
 use Rattle.judge.proofs.FieldNeeds.{value-read}
 
@@ -72,20 +74,24 @@ day-in-is kind head f t sound n p q r = rw (p, r, q, text-is head f)
 
 pub ruleset for-day-in = (needs, day-in-is)
 
-module _ (k : ℕ) (head : Text) (r : Day) where
-  pub day-ii : k ≡ 4 → r ≡ dayIn 4 head 6 → r ≡ dayBy k head
+module _ (k : ℕ) (line : Text) (known : Known) where
+  pub day-ii : (r : Day) → k ≡ 4 → r ≡ dayIn 4 line 6 → r ≡ dayBy k line known
   unfolding dayBy
-  day-ii h e = e ∙ rw h
+  day-ii r h e = e ∙ rw h
 
-  pub day-ie : k ≡ 5 → r ≡ dayIn 4 head 6 → r ≡ dayBy k head
+  pub day-ie : k ≡ 5 → known .«ii_day» ≡ dayBy k line known
   unfolding dayBy
-  day-ie h e = e ∙ rw h
+  day-ie h = rw h
 
-  pub day-other : (k ≡ 4 → ⊥) → (k ≡ 5 → ⊥) → r ≡ dayIn 6 head 5 → r ≡ dayBy k head
+  pub day-in : (r : Day) → k ≡ 6 → r ≡ dayIn 6 line 5 → r ≡ dayBy k line known
   unfolding dayBy
-  day-other a b e = e ∙ rw (ne-eqb k 4 a, ne-eqb k 5 b)
+  day-in r h e = e ∙ rw h
 
-pub ruleset for-day-of = (needs, day-ii, day-ie, day-other)
+  pub day-other : (k ≡ 4 → ⊥) → (k ≡ 5 → ⊥) → (k ≡ 6 → ⊥) → known .«in_day» ≡ dayBy k line known
+  unfolding dayBy
+  day-other a b c = rw (ne-eqb k 4 a, ne-eqb k 5 b, ne-eqb k 6 c)
+
+pub ruleset for-day-of = (needs, day-ii, day-ie, day-in, day-other)
 
 -- own_end
 pub own-ii : (file : Text) (k from r : ℕ) → OwnIs file from r → OwnEnd file k from r
@@ -121,18 +127,18 @@ module _ (k : ℕ) (line head : Text) (v : Seen) (ke : k ≡ recordOf line) (lv 
         number-is = λ z. rw (kind-is, a, b, hv) (date-value (text (recOf head) f) (sym c ∙ z));
       }
 
-  kinds : 4 ≤ k → k ≤ 7 → (k ≡ 4 → DayIs (dayBy k head) v) → (k ≡ 5 → DayIs (dayBy k head) v) → (k ≡ 6 → DayIs (dayBy k head) v) → (k ≡ 7 → DayIs (dayBy k head) v)
-      → DayIs (dayBy k head) v
+  kinds : 4 ≤ k → k ≤ 7 → (k ≡ 4 → DayIs (headDay k head) v) → (k ≡ 5 → DayIs (headDay k head) v) → (k ≡ 6 → DayIs (headDay k head) v) → (k ≡ 7 → DayIs (headDay k head) v)
+      → DayIs (headDay k head) v
   kinds lo hi a b c d = go (eqb k 4) (eqb k 5) (eqb k 6) refl refl refl
     where
-      go : (x y z : Bool) → eqb k 4 ≡ x → eqb k 5 ≡ y → eqb k 6 ≡ z → DayIs (dayBy k head) v
+      go : (x y z : Bool) → eqb k 4 ≡ x → eqb k 5 ≡ y → eqb k 6 ≡ z → DayIs (headDay k head) v
       go true y z p q r = a (eqb-true k 4 p)
       go false true z p q r = b (eqb-true k 5 q)
       go false false true p q r = c (eqb-true k 6 r)
       go false false false p q r = d (omega (arith, eqb-false k 4 p, eqb-false k 5 q, eqb-false k 6 r))
 
-  pub day-told : within II IA (recordOf line) ≡ true → DayIs (dayBy k head) v
-  unfolding dayBy headKind dayField
+  pub day-told : within II IA (recordOf line) ≡ true → DayIs (headDay k head) v
+  unfolding headDay headKind dayField
   day-told w =
       let w2 = both (leb 4 k) (leb k 7) (ap (within II IA) ke ∙ w) in
       kinds (leb-true 4 k (w2 .0)) (leb-true k 7 (w2 .1))
@@ -140,6 +146,28 @@ module _ (k : ℕ) (line head : Text) (v : Seen) (ke : k ≡ recordOf line) (lv 
       (λ z. rw z (dated 4 6 (rw z) refl (ii-6 (recOf head))))
       (λ z. rw z (dated 6 5 (rw z) refl (in-5 (recOf head))))
       (λ z. rw z (dated 6 5 (rw z) refl (in-5 (recOf head))))
+
+-- the state knows it
+module _ (file : Text) (at : ℕ) (st : State) (h : Holds file at st) (k : ℕ) (here : Span) where
+  pub day-known : 4 ≤ k → k ≤ 7 → dayBy k (partOf file here) (st .known) ≡ headDay k (partOf file (headAt st k here))
+  unfolding dayBy headDay headAt
+  day-known lo hi = go (eqb k 4) (eqb k 5) (eqb k 6) (eqb k 7) refl refl refl refl
+    where
+      by : (x y z w : Bool) → Type 0
+      by x y z w =
+          cond x (dayIn II (partOf file here) 6) (cond y (st .known .«ii_day») (cond z (dayIn IN (partOf file here) 5) (st .known .«in_day»)))
+          ≡ cond x (dayIn II (partOf file (cond y (st .ii) (cond w (st .declined) here))) 6)
+          (cond y (dayIn II (partOf file (cond y (st .ii) (cond w (st .declined) here))) 6) (dayIn IN (partOf file (cond y (st .ii) (cond w (st .declined) here))) 5))
+
+      go : (x y z w : Bool) → eqb k 4 ≡ x → eqb k 5 ≡ y → eqb k 6 ≡ z → eqb k 7 ≡ w → by x y z w
+      go true true z w a b c d = let m : k ≡ 4 = eqb-true k 4 a in let n : k ≡ 5 = eqb-true k 5 b in absurd (omega (arith, m, n))
+      go true false z true a b c d = let m : k ≡ 4 = eqb-true k 4 a in let n : k ≡ 7 = eqb-true k 7 d in absurd (omega (arith, m, n))
+      go true false z false a b c d = refl
+      go false true z w a b c d = h .ii-day-is ∙ ap (λ (l : Rec). dayFrom II l 6) (h .ii-is .is)
+      go false false true true a b c d = let m : k ≡ 6 = eqb-true k 6 c in let n : k ≡ 7 = eqb-true k 7 d in absurd (omega (arith, m, n))
+      go false false true false a b c d = refl
+      go false false false true a b c d = h .in-day-is ∙ ap (λ (l : Rec). dayFrom IN l 5) (h .in-is .is)
+      go false false false false a b c d = absurd (omega (arith, eqb-false k 4 a, eqb-false k 5 b, eqb-false k 6 c, eqb-false k 7 d))
 
 -- judge_line
 
@@ -207,21 +235,26 @@ module _ (file : Text) (at : ℕ) (l : LineAt) (k : ℕ) (st : State) (b : Block
       }
 
   pub next-ended : l .next < length file → whole (take (l .next) file) ≡ true
-  next-ended = holds-step file at st h l e (g .less) k (g .kind-is) b (g .block-is) .ended
+  next-ended = holds-step file at st h l e (g .less) k (g .kind-is) b (g .block-is) (dayBy k (part file at (l .end)) (st .known)) refl .ended
 
-  module _ (p : Span) (i : p ≡ headAt st k (span at (l .end))) (own : ℕ) (o : OwnEnd file k (l .next) own) (day : Day) (d : day ≡ dayBy k (partOf file p))
+  module _ (p : Span) (i : p ≡ headAt st k (span at (l .end))) (own : ℕ) (o : OwnEnd file k (l .next) own) (day : Day) (d : day ≡ dayBy k (part file at (l .end)) (st .known))
       (facts : Facts) (today : ℕ) (book : Text) (q : Sections) where
     abbrev view : Seen
     view = seenWith file at st (part file at (l .end)) (headAt st k (span at (l .end))) (b .from) (front (isKind IE) (recs (drop (l .next) file))) facts
 
     told : (s : Setting) → Looks today book q s
-        → Told today book q (st .place) (part file at (l .end)) (partOf file (st .ip)) (partOf file p) (part file (st .since) at) (part file (b .from) at) (part file (l .next) own) (partOf file (st .first)) day facts s view
+        → Told today book q (st .place) (st .known .born) (part file at (l .end)) (partOf file (st .ip)) (partOf file p) (part file (st .since) at) (part file (b .from) at) (part file (l .next) own) (partOf file (st .first)) day facts s view
     unfolding seenBy headAt
     told s ls =
         record {
           looks = ls;
-          shows = record { place-is = refl; line-is = refl; ip-is = refl };
-          day-is = rw d (day-told k (part file at (l .end)) (partOf file p) view (g .kind-is) refl (rw i));
+          shows = record { place-is = refl; born-is = sym (h .born-is ∙ ap bornOf (h .ip-is .is)); line-is = refl; ip-is = refl };
+          day-is =
+              λ w.
+              let w2 = both (leb 4 k) (leb k 7) (ap (within II IA) (g .kind-is) ∙ w) in
+              subst (λ (x : Day). DayIs x view)
+              (sym (d ∙ day-known file at st h k (span at (l .end)) (leb-true 4 k (w2 .0)) (leb-true k 7 (w2 .1)) ∙ ap (λ (x : Span). headDay k (partOf file x)) (sym i)))
+              (day-told k (part file at (l .end)) (partOf file p) view (g .kind-is) refl (rw i) w);
           head-is = rw i;
           antigens-are = refl;
           blocked =
@@ -241,7 +274,7 @@ module _ (file : Text) (at : ℕ) (l : LineAt) (k : ℕ) (st : State) (b : Block
 
     pub line-judged : (n count r : ℕ) (area after : Text)
         → ((s : Setting) (v : Seen)
-        → Told today book q (st .place) (part file at (l .end)) (partOf file (st .ip)) (partOf file p) (part file (st .since) at) (part file (b .from) at) (part file (l .next) own) (partOf file (st .first)) day facts s v
+        → Told today book q (st .place) (st .known .born) (part file at (l .end)) (partOf file (st .ip)) (partOf file p) (part file (st .since) at) (part file (b .from) at) (part file (l .next) own) (partOf file (st .first)) day facts s v
         → kept r after ≡ keep (fieldsFindings s n v 1 (length (fieldsOf (part file at (l .end))))) (kept count area))
         → (s : Setting) → Looks today book q s → kept r after ≡ keep (fieldsFindings s n view 1 (length (fieldsOf (part file at (l .end))))) (kept count area)
     line-judged n count r area after y s ls = y s view (told s ls)

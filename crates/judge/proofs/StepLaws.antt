@@ -9,16 +9,16 @@ use native.Mathlib.Omega.{arith}
 use borrow.Author.Tests.{eqb-true}
 use lib.Dec.{eqb}
 use lib.ListN.{length, take, drop}
-use Rattle.house.specs.Text.{Text, those, count, front, isEmpty, within, joined}
+use Rattle.house.specs.Text.{Text, run, those, count, front, isEmpty, within, joined}
 use Rattle.house.proofs.Small.{both, clash}
 use Rattle.lines.specs.declared.LineAt.{LineAt}
-use Rattle.lines.specs.Lines.{LineIs, linesOf}
+use Rattle.lines.specs.Lines.{LineIs, linesOf, fieldsOf}
 use Rattle.lines.specs.Records.{Rec, IP, II, IE, IN, IA, isKind, recordOf, recOf, recs}
 use Rattle.lines.specs.Inside.{part, whole}
 use Rattle.lines.proofs.LineLaws.{at-past}
 use Rattle.lines.proofs.PartLaws.{recs-past, recs-on, ended-inside, whole-step}
 use Rattle.ledger.proofs.AmongLaws.{those-append}
-use Rattle.rules.specs.Forms.{isSound}
+use Rattle.rules.specs.Forms.{fieldIn, table, isJudged, isOptional, isMissing, isSound}
 use Rattle.rules.specs.Places.{placesOf, placesIn, noRec, nearest, isNumbered}
 use Rattle.rules.specs.Blocks.{isInBlock, joins, nearestOf, blockIn, openAfter, hasSecond, firstOpen, beforeOpen}
 use Rattle.rules.specs.Seen.{Setting}
@@ -26,7 +26,11 @@ use Rattle.rules.specs.Findings.{lineFindings, findingsOf}
 use Rattle.judge.specs.declared.Span.{Span}
 use Rattle.judge.specs.declared.State.{State}
 use Rattle.judge.specs.declared.BlockAt.{BlockAt}
-use Rattle.judge.specs.Walk.{span, linesBefore, SpanIs, LinesAre, Holds, startState, BlockIs, nextPlace, nextOf, nextSince, nextLast, nextRun, nextMany, nextFirst, nextIns, advanced, restOf}
+use Rattle.later.specs.declared.Day.{Day}
+use Rattle.texts.specs.Leaves.{valueOf}
+use Rattle.forms.specs.Leaves.{bornOf}
+use Rattle.judge.specs.Fields.{dayFrom}
+use Rattle.judge.specs.Walk.{span, linesBefore, SpanIs, LinesAre, Holds, noDay, startState, BlockIs, dayBy, nextPlace, nextOf, nextBorn, nextDay, nextKnown, nextSince, nextLast, nextRun, nextMany, nextFirst, nextIns, advanced, restOf}
 use Rattle.judge.proofs.WalkLaws.{no-recs, kind-is, back-step, recs-next, before-step, joins-open, inb-is, joined-is, from-is, block-is}
 
 -- PARTS
@@ -51,7 +55,8 @@ lines-on file at next p ls h s = record { are = s .are; from = s .from; upto = o
 -- THE STEP
 
 module _ (file : Text) (at : ℕ) (st : State) (h : Holds file at st) (q : LineAt) (e : LineIs file at q) (less : at < length file)
-    (k : ℕ) (ki : k ≡ recordOf (part file at (q .end))) (b : BlockAt) (bi : BlockIs file at st (part file at (q .end)) b) where
+    (k : ℕ) (ki : k ≡ recordOf (part file at (q .end))) (b : BlockAt) (bi : BlockIs file at st (part file at (q .end)) b)
+    (day : Day) (dy : day ≡ dayBy k (part file at (q .end)) (st .known)) where
   abbrev L : Rec
   L = recOf (part file at (q .end))
 
@@ -103,6 +108,33 @@ module _ (file : Text) (at : ℕ) (st : State) (h : Holds file at st) (q : LineA
   unfolding nextOf
   near-step j p s =
       rw (step, kind-of j) (span-by file (q .next) (eqb k j) here p L (nearest j before) here-is (span-on file at (q .next) p (nearest j before) on s))
+
+  born-step : nextBorn (st .known .born) k (part file at (q .end)) ≡ bornOf (nearest IP (linesBefore file (q .next)))
+  unfolding nextBorn
+  born-step = rw (step, kind-of IP, h .born-is) (go (eqb k IP))
+    where
+      go : (t : Bool) → cond t (bornOf L) (bornOf (nearest IP before)) ≡ bornOf (cond t L (nearest IP before))
+      go true = refl
+      go false = refl
+
+  ii-day-step : nextDay II (st .known .«ii_day») k day ≡ dayFrom II (nearest II (linesBefore file (q .next))) 6
+  unfolding nextDay dayBy
+  ii-day-step = rw (step, kind-of II, dy, h .ii-day-is) (go (eqb k II))
+    where
+      go : (t : Bool) → cond t (cond t (dayFrom II L 6) (cond (eqb k IE) (dayFrom II (nearest II before) 6) (cond (eqb k IN) (dayFrom IN L 5) (st .known .«in_day»)))) (dayFrom II (nearest II before) 6) ≡ dayFrom II (cond t L (nearest II before)) 6
+      go true = refl
+      go false = refl
+
+  in-day-step : nextDay IN (st .known .«in_day») k day ≡ dayFrom IN (nearest IN (linesBefore file (q .next))) 5
+  unfolding nextDay dayBy
+  in-day-step = rw (step, kind-of IN, dy, h .in-day-is) (go (eqb k II) (eqb k IE) (eqb k IN) refl refl refl)
+    where
+      go : (x y t : Bool) → eqb k II ≡ x → eqb k IE ≡ y → eqb k IN ≡ t
+          → cond t (cond x (dayFrom II L 6) (cond y (st .known .«ii_day») (cond t (dayFrom IN L 5) (dayFrom IN (nearest IN before) 5)))) (dayFrom IN (nearest IN before) 5) ≡ dayFrom IN (cond t L (nearest IN before)) 5
+      go true y true a b c = let m : k ≡ 4 = eqb-true k II a in let n : k ≡ 6 = eqb-true k IN c in absurd (omega (arith, m, n))
+      go false true true a b c = let m : k ≡ 5 = eqb-true k IE b in let n : k ≡ 6 = eqb-true k IN c in absurd (omega (arith, m, n))
+      go false false true a b c = refl
+      go x y false a b c = refl
 
   since-step : LinesAre file (q .next) (span (nextSince (st .since) k (q .next)) (q .next)) (front (isKind IE) (linesBefore file (q .next)))
   unfolding nextSince
@@ -239,15 +271,18 @@ module _ (file : Text) (at : ℕ) (st : State) (h : Holds file at st) (q : LineA
   grows true x y m = omega (arith, longer)
   grows false x y m = omega (arith, longer)
 
-  pub holds-step : Holds file (q .next) (advanced st k (span at (q .end)) (q .next) b)
-  unfolding advanced nextPlace nextIns
+  pub holds-step : Holds file (q .next) (advanced st k (span at (q .end)) (q .next) b (nextKnown (st .known) k (part file at (q .end)) day))
+  unfolding advanced nextPlace nextIns nextKnown
   holds-step =
       record {
         ended = ended-step;
         place-is = place-step;
         ip-is = near-step IP (st .ip) (h .ip-is);
+        born-is = born-step;
         ii-is = near-step II (st .ii) (h .ii-is);
+        ii-day-is = ii-day-step;
         in-is = near-step IN (st .declined) (h .in-is);
+        in-day-is = in-day-step;
         since-is = since-step;
         last-is = last-step;
         run-is = run-step;
@@ -265,6 +300,19 @@ module _ (file : Text) (at : ℕ) (st : State) (h : Holds file at st) (q : LineA
 
 -- THE START
 
+-- a line that is not there gives no day
+no-born : 0 ≡ bornOf noRec
+unfolding noRec recOf fieldIn fieldsOf bornOf isSound isMissing isJudged isOptional table
+no-born = refl
+
+no-ii-day : noDay ≡ dayFrom II noRec 6
+unfolding noRec recOf fieldIn fieldsOf isSound isMissing isJudged isOptional table valueOf run
+no-ii-day = refl
+
+no-in-day : noDay ≡ dayFrom IN noRec 5
+unfolding noRec recOf fieldIn fieldsOf isSound isMissing isJudged isOptional table valueOf run
+no-in-day = refl
+
 pub holds-start : (file : Text) → Holds file 0 startState
 unfolding linesBefore recs linesOf whole noRec
 holds-start file =
@@ -272,8 +320,11 @@ holds-start file =
       ended = λ m. refl;
       place-is = refl;
       ip-is = no-span file 0;
+      born-is = no-born;
       ii-is = no-span file 0;
+      ii-day-is = no-ii-day;
       in-is = no-span file 0;
+      in-day-is = no-in-day;
       since-is = no-lines file 0;
       last-is = no-span file 0;
       run-is = refl;

@@ -27,14 +27,16 @@ use Rattle.index.proofs.FindLaws.{found-named}
 use Rattle.index.specs.Inside.{recAt}
 use Rattle.index.proofs.OnceLaws.{once-new}
 use Rattle.index.proofs.StartLaws.{passed-upto, start-upto, named-upto}
+use Rattle.judge.specs.declared.Known.{Known}
 use Rattle.judge.specs.declared.State.{State}
 use Rattle.judge.specs.declared.BlockAt.{BlockAt}
+use Rattle.later.specs.declared.Day.{Day}
 use Rattle.later.specs.declared.Facts.{Facts}
 use Rattle.judge.specs.declared.Turn.{Turn}
 use Rattle.judge.specs.Inside.{Kept, kept, keep}
 use Rattle.later.specs.Look.{knownBy, forceBy}
 use Rattle.judge.specs.Look.{settingBy}
-use Rattle.judge.specs.Walk.{partOf, span, linesBefore, Holds, BlockIs, Ready, Serves, TurnIs, headAt, seenOf, seenWith, factsBy, startState, advanced, restOf}
+use Rattle.judge.specs.Walk.{partOf, span, linesBefore, Holds, BlockIs, Ready, Serves, TurnIs, headAt, dayBy, nextKnown, seenOf, seenWith, factsBy, startState, advanced, restOf}
 use Rattle.judge.specs.Fields.{Looks}
 use Rattle.judge.specs.Judged.{findingsBy}
 use Rattle.judge.proofs.KeepLaws.{keep-all}
@@ -118,12 +120,13 @@ module _ (file : Text) (at : ℕ) (st : State) (h : Holds file at st) (l : LineA
     pub turn-is : (count c : ℕ) (area after : Text) (st2 : State)
         → ((s : Setting) → Looks today book q s
         → kept c after ≡ keep (fieldsFindings s (st .n) (seenWith file at st (part file at (l .end)) (headAt st k (span at (l .end))) (b .from) (front (isKind IE) (recs (drop (l .next) file))) facts) 1 (length (fieldsOf (part file at (l .end))))) (kept count area))
-        → c ≤ 3 * l .next → st2 ≡ advanced st k (span at (l .end)) (l .next) b
+        → c ≤ 3 * l .next → (day : Day) → day ≡ dayBy k (part file at (l .end)) (st .known) → (known : Known) → known ≡ nextKnown (st .known) k (part file at (l .end)) day
+        → st2 ≡ advanced st k (span at (l .end)) (l .next) b known
         → TurnIs (settingBy today book q (foundIn ledger live)) file at st count area (record { at = l .next; st = st2; count = c }) after
     unfolding advanced
-    turn-is count c area after st2 y m z =
+    turn-is count c area after st2 y m day dy known kn z =
         record {
-          holds = rw z (holds-step file at st h l e less k ki b bi);
+          holds = rw (z, kn) (holds-step file at st h l e less k ki b bi day dy);
           on = at-past file at l e less;
           upto = omega (arith, e .within);
           few = m;

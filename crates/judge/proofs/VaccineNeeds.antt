@@ -94,8 +94,8 @@ module _ (line book : Text) (q : Sections) (day : Day) where
 
 -- II
 
-module _ (line t ip block own first book : Text) (q : Sections) (place : ℕ) (day : Day) (today : ℕ) (facts : Facts) (x : Bool) (rx : x ≡ isRelaxed (recOf line)) (e : recordOf line ≡ 4) where
-  module _ (s : Setting) (v : Seen) (ls : Looks today book q s) (sh : Shows place line ip v) (d : DayIs day v) (bl : Blocked facts line block own first v) where
+module _ (line t ip block own first book : Text) (q : Sections) (place born : ℕ) (day : Day) (today : ℕ) (facts : Facts) (x : Bool) (rx : x ≡ isRelaxed (recOf line)) (e : recordOf line ≡ 4) where
+  module _ (s : Setting) (v : Seen) (ls : Looks today book q s) (sh : Shows place born line ip v) (d : DayIs day v) (bl : Blocked facts line block own first v) where
     kind-ii : v .line .kind ≡ II
     unfolding recOf
     kind-ii = ap (λ (l : Rec). l .kind) (sh .line-is) ∙ e
@@ -221,7 +221,7 @@ module _ (line t ip block own first book : Text) (q : Sections) (place : ℕ) (d
 
   module _ (f : ℕ) (b : Broken) (dt : t ≡ fieldOf line f) where
     abbrev pub Right : Type 0
-    Right = (s : Setting) (v : Seen) → Looks today book q s → Shows place line ip v → DayIs day v → Blocked facts line block own first v → listed b ≡ brokenAt s v f
+    Right = (s : Setting) (v : Seen) → Looks today book q s → Shows place born line ip v → DayIs day v → Blocked facts line block own first v → listed b ≡ brokenAt s v f
 
     at : (n : ℕ) → f ≡ n → t ≡ fieldOf line n
     at n h = dt ∙ ap (fieldOf line) h
@@ -237,11 +237,11 @@ module _ (line t ip block own first book : Text) (q : Sections) (place : ℕ) (d
       pub need-ii-3 : f ≡ 3 → y ≡ lowestIn 4 false 3 t (uliLater t (recOf ip)) → Right
       need-ii-3 h z s v ls sh d bl = rw h (uli-at b y p line ip s v (sh .line-is) (sh .ip-is) 4 e t (at 3 h) refl z (ii-3 s v (kind-ii s v ls sh d bl)))
 
-      pub need-ii-6 : f ≡ 6 → y ≡ lowestIn 4 false 6 t (dateLater t today (recOf ip)) → Right
+      pub need-ii-6 : f ≡ 6 → y ≡ lowestIn 4 false 6 t (dateLater t today born) → Right
       unfolding isJudged isOptional formOf table
       need-ii-6 h z s v ls sh d bl =
           rw h
-          (date-at b y p line ip s v (sh .line-is) (sh .ip-is) 4 e 6 today (ls .today-is) t (at 6 h) refl z (mandatory 4 (v .line) 6 (isDate (text (v .line) 6)) refl refl refl)
+          (date-at b y p line ip s v (sh .line-is) (sh .ip-is) 4 e born (sh .born-is) 6 today (ls .today-is) t (at 6 h) refl z (mandatory 4 (v .line) 6 (isDate (text (v .line) 6)) refl refl refl)
           (ii-6 s v (kind-ii s v ls sh d bl)))
 
       pub need-ii-14 : f ≡ 14 → y ≡ codeBy 4 x 14 t 4 t book q day → Right

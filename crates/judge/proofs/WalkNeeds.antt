@@ -12,15 +12,18 @@ use lib.ListN.{length, take, drop}
 use Rattle.house.specs.Text.{Text, front}
 use Rattle.lines.specs.declared.LineAt.{LineAt}
 use Rattle.lines.specs.Lines.{LineIs}
-use Rattle.lines.specs.Records.{Rec, IE, IN, IA, isKind, recordOf, recOf, recs}
+use Rattle.lines.specs.Records.{Rec, IP, IE, IN, IA, isKind, recordOf, recOf, recs}
 use Rattle.lines.specs.Inside.{part, whole}
 use Rattle.lines.proofs.LineLaws.{left-falls}
 use Rattle.lines.proofs.PartLaws.{recs-past, recs-on, ended-inside, whole-step}
 use Rattle.rules.specs.Blocks.{isInBlock, joins}
 use Rattle.judge.specs.declared.Span.{Span}
+use Rattle.judge.specs.declared.Known.{Known}
 use Rattle.judge.specs.declared.State.{State}
 use Rattle.judge.specs.declared.BlockAt.{BlockAt}
-use Rattle.judge.specs.Walk.{partOf, span, blockAt, OwnIs, headAt, nextPlace, nextOf, nextSince, nextLast, nextRun, nextMany, nextFirst, nextIns, advanced}
+use Rattle.later.specs.declared.Day.{Day}
+use Rattle.forms.specs.Leaves.{bornOf}
+use Rattle.judge.specs.Walk.{partOf, span, blockAt, OwnIs, headAt, nextPlace, nextOf, nextBorn, nextDay, nextKnown, nextSince, nextLast, nextRun, nextMany, nextFirst, nextIns, advanced}
 use Rattle.judge.proofs.WalkLaws.{no-recs, kind-is, recs-next}
 
 -- next_place
@@ -153,15 +156,43 @@ pub ruleset for-next = (
   head-own,
 )
 
+-- next_born, next_day
+module _ (k : ℕ) where
+  pub born-here : (j : ℕ) (r : ℕ) (line : Text) → k ≡ IP → r ≡ bornOf (recOf line) → r ≡ nextBorn j k line
+  unfolding nextBorn
+  born-here j r line h e = e ∙ simp (eq-eqb _ _ h)
+
+  pub born-same : (j : ℕ) (line : Text) → (k ≡ IP → ⊥) → j ≡ nextBorn j k line
+  unfolding nextBorn
+  born-same j line h = simp (ne-eqb _ _ h)
+
+  pub day-here : (j : ℕ) (was day : Day) → k ≡ j → day ≡ nextDay j was k day
+  unfolding nextDay
+  day-here j was day h = simp (eq-eqb _ _ h)
+
+  pub day-same : (j : ℕ) (was day : Day) → (k ≡ j → ⊥) → was ≡ nextDay j was k day
+  unfolding nextDay
+  day-same j was day h = simp (ne-eqb _ _ h)
+
+pub ruleset for-next-day = (needs, born-here, born-same, day-here, day-same)
+
+-- next_known
+pub known-is : (was : Known) (k : ℕ) (line : Text) (day : Day) (b : ℕ) (x y : Day) → b ≡ nextBorn (was .born) k line → x ≡ nextDay 4 (was .«ii_day») k day → y ≡ nextDay 6 (was .«in_day») k day
+    → _≡_ {A = Known} (record { born = b; «ii_day» = x; «in_day» = y }) (nextKnown was k line day)
+unfolding nextKnown
+known-is was k line day b x y e1 e2 e3 = rw (e1, e2, e3)
+
+pub ruleset for-next-known = (needs, known-is)
+
 -- advance
-pub advance-is : (st : State) (k : ℕ) (here : Span) (next : ℕ) (b : BlockAt) (p s r i : ℕ) (ip ii declined last first : Span) (many : Bool)
+pub advance-is : (st : State) (k : ℕ) (here : Span) (next : ℕ) (b : BlockAt) (known : Known) (p s r i : ℕ) (ip ii declined last first : Span) (many : Bool)
     → p ≡ nextPlace (st .place) k → ip ≡ nextOf 3 (st .ip) k here → ii ≡ nextOf 4 (st .ii) k here → declined ≡ nextOf 6 (st .declined) k here
     → s ≡ nextSince (st .since) k next → last ≡ nextLast (st .last) k (b .inb) here → r ≡ nextRun (st .run) k (b .inb) (b .from) next
     → many ≡ nextMany (st .many) k (b .joined) → first ≡ nextFirst (st .first) (st .many) k (b .joined) next → i ≡ nextIns (st .ins) k
-    → record { n = st .n + 1; place = p; ip = ip; ii = ii; declined = declined; since = s; last = last; run = r; many = many; first = first; ins = i }
-    ≡ advanced st k here next b
+    → record { n = st .n + 1; place = p; ip = ip; ii = ii; declined = declined; known = known; since = s; last = last; run = r; many = many; first = first; ins = i }
+    ≡ advanced st k here next b known
 unfolding advanced
-advance-is st k here next b p s r i ip ii declined last first many e1 e2 e3 e4 e5 e6 e7 e8 e9 e10 = rw (e1, e2, e3, e4, e5, e6, e7, e8, e9, e10)
+advance-is st k here next b known p s r i ip ii declined last first many e1 e2 e3 e4 e5 e6 e7 e8 e9 e10 = rw (e1, e2, e3, e4, e5, e6, e7, e8, e9, e10)
 
 pub ruleset for-advance = (needs, advance-is)
 

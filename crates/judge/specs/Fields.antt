@@ -7,13 +7,14 @@ use mathlib.Core.List.{List, reverse}
 use lib.ListN.{drop}
 use lib.Dec.{eqb}
 use Rattle.house.specs.Text.{Text, those, within}
-use Rattle.lines.specs.Records.{II, IE, IN, IA, isKind, recordOf, recOf, recs}
+use Rattle.lines.specs.Records.{Rec, II, IE, IN, IA, isKind, recordOf, recOf, recs}
 use Rattle.book.specs.declared.Sections.{Sections}
 use Rattle.rules.specs.Forms.{text, isSound}
 use Rattle.rules.specs.Seen.{Setting, Seen}
 use Rattle.rules.specs.Codes.{dayIsSound, recordDay}
 use Rattle.rules.specs.Rules.{rulesOf, brokenBy}
 use Rattle.texts.specs.Leaves.{valueOf}
+use Rattle.forms.specs.Leaves.{bornOf}
 use Rattle.later.specs.declared.Day.{Day}
 use Rattle.later.specs.declared.Facts.{Facts}
 use Rattle.later.specs.Look.{knownBy, forceBy}
@@ -22,18 +23,22 @@ use Rattle.later.specs.Look.{knownBy, forceBy}
 unfoldable pub laterAt : Setting → Seen → ℕ → List ℕ
 laterAt s v f = brokenBy s v f (drop 2 (rulesOf s))
 
--- The day of the record that a line of kind k belongs to: an II's or an IE's of II 6, any other's of IN 5
+-- the day that field f of a record gives
+abbrev pub dayFrom : ℕ → Rec → ℕ → Day
+dayFrom kind head f = record { sound = isSound kind head f; number = valueOf (text head f) }
 
 abbrev pub dayIn : ℕ → Text → ℕ → Day
-dayIn kind head f = record { sound = isSound kind (recOf head) f; number = valueOf (text (recOf head) f) }
+dayIn kind head f = dayFrom kind (recOf head) f
 
-unfoldable pub dayBy : ℕ → Text → Day
-dayBy k head = cond (eqb k II) (dayIn II head 6) (cond (eqb k IE) (dayIn II head 6) (dayIn IN head 5))
+-- the day of the record that a line of kind k belongs to: an II's or an IE's of II 6, any other's of IN 5
+unfoldable pub headDay : ℕ → Text → Day
+headDay k head = cond (eqb k II) (dayIn II head 6) (cond (eqb k IE) (dayIn II head 6) (dayIn IN head 5))
 
 -- What a function is told of what is seen from a line, and of what the file is judged by
 
-pub record Shows (place : ℕ) (line ip : Text) (v : Seen) : Type 0 where
+pub record Shows (place born : ℕ) (line ip : Text) (v : Seen) : Type 0 where
   pub place-is : v .place ≡ place
+  pub born-is : bornOf (v .ip) ≡ born
   pub line-is : v .line ≡ recOf line
   pub ip-is : v .ip ≡ recOf ip
 
@@ -59,9 +64,9 @@ pub record Blocked (facts : Facts) (line block own first : Text) (v : Seen) : Ty
   pub live-is : v .live ≡ facts .live
 
 -- all that a line's fields are judged by
-pub record Told (today : ℕ) (book : Text) (q : Sections) (place : ℕ) (line ip head since block own first : Text) (day : Day) (facts : Facts) (s : Setting) (v : Seen) : Type 0 where
+pub record Told (today : ℕ) (book : Text) (q : Sections) (place born : ℕ) (line ip head since block own first : Text) (day : Day) (facts : Facts) (s : Setting) (v : Seen) : Type 0 where
   pub looks : Looks today book q s
-  pub shows : Shows place line ip v
+  pub shows : Shows place born line ip v
   pub day-is : within II IA (recordOf line) ≡ true → DayIs day v
   pub head-is : v .head ≡ recOf head
   pub antigens-are : v .antigens ≡ reverse (recs since)

@@ -20,11 +20,15 @@ use Rattle.rules.specs.Blocks.{isInBlock, joins, eventOf, nearestOf, openAfter,
 use Rattle.rules.specs.Seen.{Setting, Seen}
 use Rattle.rules.specs.Findings.{Finding, lineFindings}
 use Rattle.judge.specs.declared.Span.{Span}
+use Rattle.judge.specs.declared.Known.{Known}
 use Rattle.judge.specs.declared.State.{State}
 use Rattle.judge.specs.declared.BlockAt.{BlockAt}
 use Rattle.later.specs.declared.Facts.{Facts}
 use Rattle.judge.specs.declared.Turn.{Turn}
+use Rattle.later.specs.declared.Day.{Day}
+use Rattle.forms.specs.Leaves.{bornOf}
 use Rattle.judge.specs.Inside.{kept, keep}
+use Rattle.judge.specs.Fields.{dayFrom, dayIn}
 
 abbrev pub partOf : Text → Span → Text
 partOf s p = part s (p .start) (p .end)
@@ -54,8 +58,11 @@ pub record Holds (file : Text) (at : ℕ) (st : State) : Type 0 where
   pub ended : at < length file → whole (take at file) ≡ true
   pub place-is : st .place ≡ suc (count isNumbered (linesBefore file at))
   pub ip-is : SpanIs file at (st .ip) (nearest IP (linesBefore file at))
+  pub born-is : st .known .born ≡ bornOf (nearest IP (linesBefore file at))
   pub ii-is : SpanIs file at (st .ii) (nearest II (linesBefore file at))
+  pub ii-day-is : st .known .«ii_day» ≡ dayFrom II (nearest II (linesBefore file at)) 6
   pub in-is : SpanIs file at (st .declined) (nearest IN (linesBefore file at))
+  pub in-day-is : st .known .«in_day» ≡ dayFrom IN (nearest IN (linesBefore file at)) 5
   pub since-is : LinesAre file at (span (st .since) at) (front (isKind IE) (linesBefore file at))
   pub last-is : SpanIs file at (st .last) (nearestOf (openAfter (linesBefore file at)))
   pub run-is : openAfter (linesBefore file at) ≡ reverse (those (isKind II) (recs (part file (st .run) at)))
@@ -70,6 +77,10 @@ pub record Holds (file : Text) (at : ℕ) (st : State) : Type 0 where
   pub place-small : st .place ≤ at + 1
   pub ins-small : st .ins ≤ at
 
+-- of a line that is not there
+abbrev pub noDay : Day
+noDay = record { sound = false; number = 0 }
+
 abbrev pub startState : State
 startState =
     record {
@@ -78,6 +89,7 @@ startState =
       ip = span 0 0;
       ii = span 0 0;
       declined = span 0 0;
+      known = record { born = 0; «ii_day» = noDay; «in_day» = noDay };
       since = 0;
       last = span 0 0;
       run = 0;
@@ -145,6 +157,10 @@ pub record PartsIn (file : Text) (at : ℕ) (l : LineAt) (st : State) (from : �
 unfoldable pub headAt : State → ℕ → Span → Span
 headAt st k here = cond (eqb k IE) (st .ii) (cond (eqb k IA) (st .declined) here)
 
+-- the day of that record, by the line and what is known
+unfoldable pub dayBy : ℕ → Text → Known → Day
+dayBy k line known = cond (eqb k II) (dayIn II line 6) (cond (eqb k IE) (known .«ii_day») (cond (eqb k IN) (dayIn IN line 5) (known .«in_day»)))
+
 -- what is seen from a line, by the texts around it
 unfoldable pub seenBy : ℕ → Text → Text → Text → Text → Bool → Text → Bool → List Rec → Text → Bool → Bool → Seen
 seenBy place line ip head since inb block joined own first repeated live =
@@ -194,6 +210,22 @@ nextPlace place k = cond (within IP IA k) (place + 1) place
 unfoldable pub nextOf : ℕ → Span → ℕ → Span → Span
 nextOf j p k here = cond (eqb k j) here p
 
+-- the day of birth that the nearest IP gives
+unfoldable pub nextBorn : ℕ → ℕ → Text → ℕ
+nextBorn born k line = cond (eqb k IP) (bornOf (recOf line)) born
+
+-- the day of the nearest line of kind j
+unfoldable pub nextDay : ℕ → Day → ℕ → Day → Day
+nextDay j was k day = cond (eqb k j) day was
+
+unfoldable pub nextKnown : Known → ℕ → Text → Day → Known
+nextKnown was k line day =
+    record {
+      born = nextBorn (was .born) k line;
+      «ii_day» = nextDay II (was .«ii_day») k day;
+      «in_day» = nextDay IN (was .«in_day») k day;
+    }
+
 unfoldable pub nextSince : ℕ → ℕ → ℕ → ℕ
 nextSince since k next = cond (eqb k IE) since next
 
@@ -212,14 +244,15 @@ nextFirst first many k joined next = cond (eqb k IE) (cond many first (span (fir
 unfoldable pub nextIns : ℕ → ℕ → ℕ
 nextIns ins k = cond (eqb k IN) (ins + 1) ins
 
-unfoldable pub advanced : State → ℕ → Span → ℕ → BlockAt → State
-advanced st k here next b =
+unfoldable pub advanced : State → ℕ → Span → ℕ → BlockAt → Known → State
+advanced st k here next b known =
     record {
       n = st .n + 1;
       place = nextPlace (st .place) k;
       ip = nextOf IP (st .ip) k here;
       ii = nextOf II (st .ii) k here;
       declined = nextOf IN (st .declined) k here;
+      known = known;
       since = nextSince (st .since) k next;
       last = nextLast (st .last) k (b .inb) here;
       run = nextRun (st .run) k (b .inb) (b .from) next;

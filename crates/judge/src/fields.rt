@@ -65,6 +65,7 @@ pub(crate) fn judge_in(
     book: &[u8],
     q: Sections,
     place: usize,
+    born: u32,
     day: Day,
     today: u32,
     f: usize,
@@ -72,12 +73,12 @@ pub(crate) fn judge_in(
 ) -> Broken
     requires { ⌜ now t ≡ fieldOf (now line) f ⌝ }
     requires { ⌜ recordOf (now line) ≡ 6 ⌝ }
-    ensures { λ r. ⌜ ((s : Setting) (v : Seen) → Looks today (now (book .entry)) q s → Shows place (now (line .entry)) (now (ip .entry)) v → DayIs day v → listed r ≡ brokenAt s v f) ⌝ }
+    ensures { λ r. ⌜ ((s : Setting) (v : Seen) → Looks today (now (book .entry)) q s → Shows place born (now (line .entry)) (now (ip .entry)) v → DayIs day v → listed r ≡ brokenAt s v f) ⌝ }
 {
     match f {
         2 => one(forms::number_rule(IN, t, place)),
         3 => one(forms::uli_rule(IN, t, ip)),
-        5 => one(forms::date_rule(IN, 5, t, today, ip)),
+        5 => one(forms::date_rule(IN, 5, t, today, born)),
         6 => one(later::code_rule(IN, false, 6, t, 6, t, book, q, day)),
         _ => one(forms::basic_rule(IN, false, f, t)),
     }
@@ -90,6 +91,7 @@ pub(crate) fn judge_ia(
     book: &[u8],
     q: Sections,
     place: usize,
+    born: u32,
     day: Day,
     today: u32,
     f: usize,
@@ -97,7 +99,7 @@ pub(crate) fn judge_ia(
 ) -> Broken
     requires { ⌜ now t ≡ fieldOf (now line) f ⌝ }
     requires { ⌜ recordOf (now line) ≡ 7 ⌝ }
-    ensures { λ r. ⌜ ((s : Setting) (v : Seen) → Looks today (now (book .entry)) q s → Shows place (now (line .entry)) (now (ip .entry)) v → DayIs day v → listed r ≡ brokenAt s v f) ⌝ }
+    ensures { λ r. ⌜ ((s : Setting) (v : Seen) → Looks today (now (book .entry)) q s → Shows place born (now (line .entry)) (now (ip .entry)) v → DayIs day v → listed r ≡ brokenAt s v f) ⌝ }
 {
     match f {
         2 => one(forms::number_rule(IA, t, place)),
@@ -116,6 +118,7 @@ pub(crate) fn judge_ie(
     book: &[u8],
     q: Sections,
     place: usize,
+    born: u32,
     day: Day,
     today: u32,
     f: usize,
@@ -123,7 +126,7 @@ pub(crate) fn judge_ie(
 ) -> Broken
     requires { ⌜ now t ≡ fieldOf (now line) f ⌝ }
     requires { ⌜ recordOf (now line) ≡ 5 ⌝ }
-    ensures { λ r. ⌜ ((s : Setting) (v : Seen) → Looks today (now (book .entry)) q s → Shows place (now (line .entry)) (now (ip .entry)) v → DayIs day v → v .head ≡ recOf (now (head .entry)) → v .antigens ≡ reverse (recs (now (since .entry))) → listed r ≡ brokenAt s v f) ⌝ }
+    ensures { λ r. ⌜ ((s : Setting) (v : Seen) → Looks today (now (book .entry)) q s → Shows place born (now (line .entry)) (now (ip .entry)) v → DayIs day v → v .head ≡ recOf (now (head .entry)) → v .antigens ≡ reverse (recs (now (since .entry))) → listed r ≡ brokenAt s v f) ⌝ }
 {
     match f {
         2 => one(forms::number_rule(IE, t, place)),

@@ -7,6 +7,7 @@ mod pass;
 mod vaccine;
 mod walk;
 
+use later::Day;
 pub use pass::judge;
 
 // A part of the file.
@@ -15,15 +16,22 @@ struct Span {
     end: usize,
 }
 
-// What is known at the start of a line: its number; its place, if it is numbered; the nearest IP, II and IN; where the IE lines just
-// before it start; the nearest II of the open block, where that block starts, whether it has a second II, and the IE lines of its first; how
-// many IN lines there are so far.
+// What later lines ask again of the nearest IP, II and IN: the day of birth, and the days.
+struct Known {
+    born: u32,
+    ii_day: Day,
+    in_day: Day,
+}
+
+// What is known at the start of a line: its number; its place, if it is numbered; the nearest IP, II and IN, and what they give; where the IE lines just before it start; the nearest II of the open block, where that block
+// starts, whether it has a second II, and the IE lines of its first; how many IN lines there are so far.
 struct State {
     n: usize,
     place: usize,
     ip: Span,
     ii: Span,
     declined: Span,
+    known: Known,
     since: usize,
     last: Span,
     run: usize,

@@ -44,6 +44,7 @@ fn judge_field(
     book: &[u8],
     q: Sections,
     place: usize,
+    born: u32,
     day: Day,
     today: u32,
     facts: Facts,
@@ -54,7 +55,7 @@ fn judge_field(
     requires { ⌜ now t ≡ fieldOf (now line) f ⌝ }
     requires { ⌜ (k ≡ 4 → relaxed ≡ isRelaxed (recOf (now line))) ⌝ }
     requires { ⌜ k ≡ recordOf (now line) ⌝ }
-    ensures { λ r. ⌜ ((s : Setting) (v : Seen) → Told today (now (book .entry)) q place (now (line .entry)) (now (ip .entry)) (now (head .entry)) (now (since .entry)) (now (block .entry)) (now (own .entry)) (now (first .entry)) day facts s v → listed r ≡ brokenAt s v f) ⌝ }
+    ensures { λ r. ⌜ ((s : Setting) (v : Seen) → Told today (now (book .entry)) q place born (now (line .entry)) (now (ip .entry)) (now (head .entry)) (now (since .entry)) (now (block .entry)) (now (own .entry)) (now (first .entry)) day facts s v → listed r ≡ brokenAt s v f) ⌝ }
 {
     match k {
         lines::IV => judge_iv(line, f, t),
@@ -68,6 +69,7 @@ fn judge_field(
             book,
             q,
             place,
+            born,
             day,
             today,
             facts,
@@ -75,9 +77,22 @@ fn judge_field(
             f,
             t,
         ),
-        lines::IE => judge_ie(line, ip, head, since, book, q, place, day, today, f, t),
-        lines::IN => judge_in(line, ip, book, q, place, day, today, f, t),
-        lines::IA => judge_ia(line, ip, book, q, place, day, today, f, t),
+        lines::IE => judge_ie(
+            line,
+            ip,
+            head,
+            since,
+            book,
+            q,
+            place,
+            born,
+            day,
+            today,
+            f,
+            t,
+        ),
+        lines::IN => judge_in(line, ip, book, q, place, born, day, today, f, t),
+        lines::IA => judge_ia(line, ip, book, q, place, born, day, today, f, t),
         _ => judge_plain(k, line, f, t),
     }
 }
@@ -103,6 +118,7 @@ pub(crate) fn judge_fields(
     book: &[u8],
     q: Sections,
     place: usize,
+    born: u32,
     day: Day,
     today: u32,
     facts: Facts,
@@ -112,7 +128,7 @@ pub(crate) fn judge_fields(
 ) -> usize
     requires { ⌜ k ≡ recordOf (now line) ⌝ }
     requires { ⌜ count + 3 * length (fieldsOf (now line)) < 2 ^ 63 ⌝ }
-    ensures { λ r. ⌜ ((s : Setting) (v : Seen) → Told today (now (book .entry)) q place (now (line .entry)) (now (ip .entry)) (now (head .entry)) (now (since .entry)) (now (block .entry)) (now (own .entry)) (now (first .entry)) day facts s v → kept r (now (area .exit)) ≡ keep (fieldsFindings s n v 1 (length (fieldsOf (now (line .entry))))) (kept count (now (area .entry)))) ⌝ }
+    ensures { λ r. ⌜ ((s : Setting) (v : Seen) → Told today (now (book .entry)) q place born (now (line .entry)) (now (ip .entry)) (now (head .entry)) (now (since .entry)) (now (block .entry)) (now (own .entry)) (now (first .entry)) day facts s v → kept r (now (area .exit)) ≡ keep (fieldsFindings s n v 1 (length (fieldsOf (now (line .entry))))) (kept count (now (area .entry)))) ⌝ }
     ensures { λ r. ⌜ r ≤ count + 3 * length (fieldsOf (now (line .entry))) ⌝ }
 {
     let fields = lines::count_fields(line);
@@ -134,6 +150,7 @@ pub(crate) fn judge_fields(
             book,
             q,
             place,
+            born,
             day,
             today,
             facts,

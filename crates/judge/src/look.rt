@@ -1,5 +1,6 @@
 // What is known of a line before its fields are judged: its day, and what the index and the ledger say of its event.
 use crate::BlockAt;
+use crate::Known;
 use later::Day;
 use later::Facts;
 use lines::II;
@@ -7,8 +8,8 @@ use lines::IN;
 ghost use mathlib.Core.Path.{_≡_};
 ghost use Rattle.lines.specs.Records.{recOf};
 ghost use Rattle.rules.specs.Blocks.{eventOf};
-ghost use Rattle.judge.specs.Walk.{factsBy};
-ghost use Rattle.judge.specs.Fields.{dayIn, dayBy};
+ghost use Rattle.judge.specs.Walk.{factsBy, dayBy};
+ghost use Rattle.judge.specs.Fields.{dayIn};
 
 // The event that a line names.
 fn event_of(line: &[u8]) -> [u8; 37]
@@ -62,13 +63,14 @@ fn day_in(kind: u8, head: &[u8], f: usize) -> Day
     Day { sound, number }
 }
 
-// The day of the record that a line of kind k belongs to.
-pub(crate) fn day_of(k: u8, head: &[u8]) -> Day
-    ensures { λ r. ⌜ r ≡ dayBy k (now (head .entry)) ⌝ }
+// The day of the record that a line of kind k belongs to: an II's or an IN's own, an IE's of the nearest II, an IA's of the nearest IN.
+pub(crate) fn day_of(k: u8, line: &[u8], known: Known) -> Day
+    ensures { λ r. ⌜ r ≡ dayBy k (now (line .entry)) known ⌝ }
 {
     match k {
-        lines::II => day_in(II, head, 6),
-        lines::IE => day_in(II, head, 6),
-        _ => day_in(IN, head, 5),
+        lines::II => day_in(II, line, 6),
+        lines::IE => known.ii_day,
+        lines::IN => day_in(IN, line, 5),
+        _ => known.in_day,
     }
 }

@@ -1,6 +1,7 @@
 // The pass over a file: each line judged in turn.
 use crate::BlockAt;
 use crate::Judged;
+use crate::Known;
 use crate::Span;
 use crate::State;
 use crate::Turn;
@@ -12,6 +13,7 @@ use crate::walk::advance;
 use crate::walk::block_of;
 use crate::walk::head_at;
 use crate::walk::ie_end;
+use crate::walk::next_known;
 use book::Sections;
 use index::Built;
 use later::Day;
@@ -32,7 +34,7 @@ ghost use Rattle.index.specs.Firsts.{indexOf, builtIn};
 ghost use Rattle.judge.specs.Inside.{kept, keep};
 ghost use Rattle.judge.specs.Look.{settingBy};
 ghost use Rattle.judge.specs.Fields.{Looks, Told};
-ghost use Rattle.judge.specs.Walk.{partOf, Holds, BlockIs, OwnEnd, Ready, PartsIn, Serves, TurnIs, startState, headAt, span, seenWith};
+ghost use Rattle.judge.specs.Walk.{partOf, dayBy, Holds, BlockIs, OwnEnd, Ready, PartsIn, Serves, TurnIs, startState, headAt, span, seenWith};
 ghost use Rattle.judge.specs.Judged.{findingsBy, judgedOf, judgedArea};
 
 // Where the IE lines of an II end that start at a position; the position itself for a line of another kind.
@@ -68,7 +70,7 @@ fn judge_parts(
     requires { ⌜ PartsIn (now file) at l st from head own ⌝ }
     requires { ⌜ k ≡ recordOf (part (now file) at (l .end)) ⌝ }
     requires { ⌜ count + 3 * length (fieldsOf (part (now file) at (l .end))) < 2 ^ 63 ⌝ }
-    ensures { λ r. ⌜ ((s : Setting) (v : Seen) → Told today (now (book .entry)) q (st .place) (part (now (file .entry)) at (l .end)) (partOf (now (file .entry)) (st .ip)) (partOf (now (file .entry)) head) (part (now (file .entry)) (st .since) at) (part (now (file .entry)) from at) (part (now (file .entry)) (l .next) own) (partOf (now (file .entry)) (st .first)) day facts s v → kept r (now (area .exit)) ≡ keep (fieldsFindings s (st .n) v 1 (length (fieldsOf (part (now (file .entry)) at (l .end))))) (kept count (now (area .entry)))) ⌝ }
+    ensures { λ r. ⌜ ((s : Setting) (v : Seen) → Told today (now (book .entry)) q (st .place) (st .known .born) (part (now (file .entry)) at (l .end)) (partOf (now (file .entry)) (st .ip)) (partOf (now (file .entry)) head) (part (now (file .entry)) (st .since) at) (part (now (file .entry)) from at) (part (now (file .entry)) (l .next) own) (partOf (now (file .entry)) (st .first)) day facts s v → kept r (now (area .exit)) ≡ keep (fieldsFindings s (st .n) v 1 (length (fieldsOf (part (now (file .entry)) at (l .end))))) (kept count (now (area .entry)))) ⌝ }
     ensures { λ r. ⌜ r ≤ count + 3 * length (fieldsOf (part (now (file .entry)) at (l .end))) ⌝ }
 {
     let end = l.end;
@@ -79,6 +81,7 @@ fn judge_parts(
     let hs = head.start;
     let he = head.end;
     let since = st.since;
+    let known = st.known;
     let first = st.first;
     let fs = first.start;
     let fe = first.end;
@@ -94,6 +97,7 @@ fn judge_parts(
         book,
         q,
         st.place,
+        known.born,
         day,
         today,
         facts,
@@ -112,6 +116,7 @@ fn judge_line(
     st: State,
     b: BlockAt,
     facts: Facts,
+    day: Day,
     book: &[u8],
     q: Sections,
     today: u32,
@@ -119,6 +124,7 @@ fn judge_line(
     count: usize,
 ) -> usize
     requires { ⌜ Ready (now file) at l k st b ⌝ }
+    requires { ⌜ day ≡ dayBy k (part (now file) at (l .end)) (st .known) ⌝ }
     requires { ⌜ count ≤ 3 * at ⌝ }
     ensures { λ r. ⌜ ((s : Setting) → Looks today (now (book .entry)) q s → kept r (now (area .exit)) ≡ keep (fieldsFindings s (st .n) (seenWith (now (file .entry)) at st (part (now (file .entry)) at (l .end)) (headAt st k (span at (l .end))) (b .from) (front (isKind IE) (recs (drop (l .next) (now (file .entry))))) facts) 1 (length (fieldsOf (part (now (file .entry)) at (l .end))))) (kept count (now (area .entry)))) ⌝ }
     ensures { λ r. ⌜ r ≤ 3 * l .next ⌝ }
@@ -126,10 +132,7 @@ fn judge_line(
     let end = l.end;
     let next = l.next;
     let head = head_at(st, k, Span { start: at, end });
-    let hs = head.start;
-    let he = head.end;
     let own = own_end(file, k, next);
-    let day = day_of(k, &file[hs..he]);
     judge_parts(
         file,
         at,
@@ -177,8 +180,24 @@ fn turn(
     let k = lines::kind_of(line);
     let b = block_of(file, at, st, line);
     let facts = facts_of(file, index, ledger, live, line, b);
-    let c = judge_line(file, at, l, k, st, b, facts, book, q, today, area, count);
-    let after = advance(st, k, Span { start: at, end }, next, b);
+    let day = day_of(k, line, st.known);
+    let known = next_known(st.known, k, line, day);
+    let c = judge_line(
+        file,
+        at,
+        l,
+        k,
+        st,
+        b,
+        facts,
+        day,
+        book,
+        q,
+        today,
+        area,
+        count,
+    );
+    let after = advance(st, k, Span { start: at, end }, next, b, known);
     Turn {
         at: next,
         st: after,
@@ -191,12 +210,21 @@ fn start() -> State
     ensures { λ r. ⌜ r ≡ startState ⌝ }
 {
     let none = Span { start: 0, end: 0 };
+    let no_day = Day {
+        sound: false,
+        number: 0,
+    };
     State {
         n: 1,
         place: 1,
         ip: none,
         ii: none,
         declined: none,
+        known: Known {
+            born: 0,
+            ii_day: no_day,
+            in_day: no_day,
+        },
         since: 0,
         last: none,
         run: 0,

@@ -24,6 +24,7 @@ pub(crate) fn judge_ii(
     book: &[u8],
     q: Sections,
     place: usize,
+    born: u32,
     day: Day,
     today: u32,
     facts: Facts,
@@ -34,13 +35,13 @@ pub(crate) fn judge_ii(
     requires { ⌜ now t ≡ fieldOf (now line) f ⌝ }
     requires { ⌜ relaxed ≡ isRelaxed (recOf (now line)) ⌝ }
     requires { ⌜ recordOf (now line) ≡ 4 ⌝ }
-    ensures { λ r. ⌜ ((s : Setting) (v : Seen) → Looks today (now (book .entry)) q s → Shows place (now (line .entry)) (now (ip .entry)) v → DayIs day v → Blocked facts (now (line .entry)) (now (block .entry)) (now (own .entry)) (now (first .entry)) v → listed r ≡ brokenAt s v f) ⌝ }
+    ensures { λ r. ⌜ ((s : Setting) (v : Seen) → Looks today (now (book .entry)) q s → Shows place born (now (line .entry)) (now (ip .entry)) v → DayIs day v → Blocked facts (now (line .entry)) (now (block .entry)) (now (own .entry)) (now (first .entry)) v → listed r ≡ brokenAt s v f) ⌝ }
 {
     match f {
         2 => one(forms::number_rule(II, t, place)),
         3 => one(forms::uli_rule(II, t, ip)),
         4 => later::type_at(t, facts),
-        6 => one(forms::date_rule(II, 6, t, today, ip)),
+        6 => one(forms::date_rule(II, 6, t, today, born)),
         8 => later::vaccine_at(t, own, first, book, q, day, facts),
         9 => later::site_at(line, relaxed, t),
         10 => later::method_at(line, relaxed, t),

@@ -1,13 +1,15 @@
 // The walk over the lines: the state at the start of a line, and how it goes on.
 use crate::BlockAt;
+use crate::Known;
 use crate::Span;
 use crate::State;
+use later::Day;
 ghost use mathlib.Core.Path.{_≡_};
 ghost use Prim.Native.Nat.{_+_, _^_, _≤_, _<_};
 ghost use mathlib.Core.Bool.{true};
 ghost use lib.ListN.{length, take};
 ghost use Rattle.lines.specs.Inside.{whole};
-ghost use Rattle.judge.specs.Walk.{Holds, BlockIs, OwnIs, headAt, nextPlace, nextOf, nextSince, nextLast, nextRun, nextMany, nextFirst, nextIns, advanced};
+ghost use Rattle.judge.specs.Walk.{Holds, BlockIs, OwnIs, headAt, nextPlace, nextOf, nextBorn, nextDay, nextKnown, nextSince, nextLast, nextRun, nextMany, nextFirst, nextIns, advanced};
 
 // The place of the next line, if it is numbered.
 fn next_place(place: usize, k: u8) -> usize
@@ -93,10 +95,39 @@ fn next_ins(ins: usize, k: u8) -> usize
     if k == lines::IN { ins + 1 } else { ins }
 }
 
+// The day of birth that the nearest IP gives.
+fn next_born(born: u32, k: u8, line: &[u8]) -> u32
+    ensures { λ r. ⌜ r ≡ nextBorn born k (now (line .entry)) ⌝ }
+{
+    if k == lines::IP {
+        forms::born(line)
+    } else {
+        born
+    }
+}
+
+// The day of the nearest line of kind j.
+fn next_day(j: u8, was: Day, k: u8, day: Day) -> Day
+    ensures { λ r. ⌜ r ≡ nextDay j was k day ⌝ }
+{
+    if k == j { day } else { was }
+}
+
+// What the nearest IP, II and IN give after a line of kind k, whose day this is.
+pub(crate) fn next_known(was: Known, k: u8, line: &[u8], day: Day) -> Known
+    ensures { λ r. ⌜ r ≡ nextKnown was k (now (line .entry)) day ⌝ }
+{
+    Known {
+        born: next_born(was.born, k, line),
+        ii_day: next_day(lines::II, was.ii_day, k, day),
+        in_day: next_day(lines::IN, was.in_day, k, day),
+    }
+}
+
 // The state after a line of kind k that stands at `here`.
-pub(crate) fn advance(st: State, k: u8, here: Span, next: usize, b: BlockAt) -> State
+pub(crate) fn advance(st: State, k: u8, here: Span, next: usize, b: BlockAt, known: Known) -> State
     requires { ⌜ (st .n + 1 < 2 ^ 64) × (st .place + 1 < 2 ^ 64) × (st .ins + 1 < 2 ^ 64) ⌝ }
-    ensures { λ r. ⌜ r ≡ advanced st k here next b ⌝ }
+    ensures { λ r. ⌜ r ≡ advanced st k here next b known ⌝ }
 {
     let ip = next_of(lines::IP, st.ip, k, here);
     let ii = next_of(lines::II, st.ii, k, here);
@@ -109,6 +140,7 @@ pub(crate) fn advance(st: State, k: u8, here: Span, next: usize, b: BlockAt) -> 
         ip,
         ii,
         declined,
+        known,
         since: next_since(st.since, k, next),
         last,
         run: next_run(st.run, k, b.inb, b.from, next),

@@ -14,5 +14,4 @@ date-later-spec =
     (λ c. search for-date-later)
     (λ c. search for-date-later)
     (λ c. search for-date-later)
-    (λ c. search for-date-later)
     (λ c. search for-date-later))

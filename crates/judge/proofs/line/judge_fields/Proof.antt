@@ -7,10 +7,10 @@ use Rattle.judge.proofs.line.judge_fields.Statement.{statement}
 use Rattle.judge.proofs.line.judge_fields.Tie as tie
 
 abbrev Inv-loop : tie.InvT-loop
-Inv-loop k line ip head since block own first book q place day today facts n area₀ count fields relaxed c₀ at₀ f₀ area c at f = Going today book q place line ip head since block own first day facts n count area₀ fields at f c area
+Inv-loop k line ip head since block own first book q place born day today facts n area₀ count fields relaxed c₀ at₀ f₀ area c at f = Going today book q place born line ip head since block own first day facts n count area₀ fields at f c area
 
 abbrev μ-loop : tie.MeasureT-loop
-μ-loop k line ip head since block own first book q place day today facts n area₀ count fields relaxed c₀ at₀ f₀ area c at f = fields + 1 - f
+μ-loop k line ip head since block own first book q place born day today facts n area₀ count fields relaxed c₀ at₀ f₀ area c at f = fields + 1 - f
 
 pub judge-fields-spec : {M : Type 1} → statement M
 judge-fields-spec =

@@ -10,10 +10,6 @@ judge-line-spec =
     (tie.spec
     (λ c. search for-judge-line)
     (λ c. search for-judge-line)
-    (λ c. search for-judge-line)
-    (λ c. search for-judge-line)
-    (λ c. search for-judge-line)
-    (λ c. search for-judge-line)
     (λ c κs. (search for-judge-line, (search for-judge-line, search for-judge-line)))
     (λ c. search for-judge-line)
     (λ c. search for-judge-line))

@@ -1,11 +1,11 @@
--- `forms::verdicts::born_after` meets its contract.
+-- `forms::verdicts::born` meets its contract.
 -- Assumes nothing.
 use Rattle.forms.proofs.VerdictNeeds.{for-born}
-use Rattle.forms.proofs.verdicts.born_after.Statement.{statement}
-use Rattle.forms.proofs.verdicts.born_after.Tie as tie
+use Rattle.forms.proofs.verdicts.born.Statement.{statement}
+use Rattle.forms.proofs.verdicts.born.Tie as tie
 
-pub born-after-spec : {M : Type 1} → statement M
-born-after-spec =
+pub born-spec : {M : Type 1} → statement M
+born-spec =
     tie.close
     (tie.spec
     (λ c. search for-born)
