@@ -5,9 +5,10 @@ use mathlib.Core.Bool.{Bool, not, cond, _&&_, _||_}
 use mathlib.Core.List.{List}
 use lib.Dec.{eqb, ltb}
 use Rattle.house.specs.Text.{Text, bytes, any, within, isEmpty, same, number}
+use Rattle.lines.specs.Lines.{fieldOf}
 use Rattle.lines.specs.Records.{Rec, IP, II, IE, IN, isKind}
 use Rattle.house.specs.Dates.{isDate}
-use Rattle.rules.specs.Forms.{text, formOf, isJudged, isRelaxed, isMissing, isMisformed, isSound}
+use Rattle.rules.specs.Forms.{text, formOf, isJudged, isRelaxed, isMissing, isMisformed, isSound, isType, isCode}
 use Rattle.rules.specs.Rules.{sameCount}
 
 -- II 18 and 19 relax an event: "18 is neither empty nor AB, or 18 is empty and 19 is not"
@@ -80,6 +81,20 @@ countIn ps l = any (sameCount l) ps
 unfoldable pub soundCount : Rec → Bool
 soundCount l = isSound IE l 4 && isSound IE l 5
 
--- fields 6 and 8 of an II are sound
-unfoldable pub datedCode : Rec → Bool
-datedCode l = isSound II l 6 && isSound II l 8
+-- Blocks: what is asked of an II from a field on, which is the first of the text
+
+-- from its field 6 on: its date and its vaccine are sound
+unfoldable pub datedFrom : Text → Bool
+datedFrom t = isDate (fieldOf t 1) && isCode (fieldOf t 3)
+
+-- from its field 4 on: its type is sound too
+unfoldable pub typedFrom : Text → Bool
+typedFrom t = isType (fieldOf t 1) && (isDate (fieldOf t 3) && isCode (fieldOf t 5))
+
+-- two of them, from field 6 on, have one date and one vaccine
+unfoldable pub sameDated : Text → Text → Bool
+sameDated t u = same (fieldOf t 1) (fieldOf u 1) && same (fieldOf t 3) (fieldOf u 3)
+
+-- from field 4 on: one type too
+unfoldable pub sameTyped : Text → Text → Bool
+sameTyped t u = same (fieldOf t 1) (fieldOf u 1) && (same (fieldOf t 3) (fieldOf u 3) && same (fieldOf t 5) (fieldOf u 5))
