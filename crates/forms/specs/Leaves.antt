@@ -8,8 +8,8 @@ use Rattle.house.specs.Text.{Text, bytes, any, within, isEmpty, same, number}
 use Rattle.lines.specs.Lines.{fieldOf}
 use Rattle.lines.specs.Records.{Rec, IP, II, IE, IN, isKind}
 use Rattle.house.specs.Dates.{isDate}
-use Rattle.rules.specs.Forms.{text, formOf, isJudged, isRelaxed, isMissing, isMisformed, isSound, isType, isCode}
-use Rattle.rules.specs.Rules.{sameCount}
+use Rattle.rules.specs.Forms.{text, formOf, isJudged, isRelaxed, isMissing, isMisformed, isSound, isType, isCode, isCount}
+use Rattle.rules.specs.Rules.{doseOf, sameCount}
 
 -- II 18 and 19 relax an event: "18 is neither empty nor AB, or 18 is empty and 19 is not"
 unfoldable pub refusedBy : Text → Text → Bool
@@ -72,6 +72,14 @@ lotIs t p = isKind II p && (isSound II p 15 && same t (text p 15))
 -- rule 14: a lot that an II among these lines has
 unfoldable pub lotLater : Text → List Rec → ℕ
 lotLater t ps = cond (any (lotIs t) ps) 14 0
+
+-- a count as a number; 0 where it is not sound
+unfoldable pub doseIn : Text → ℕ
+doseIn t = cond (isCount t) (number t) 0
+
+-- it gives this antigen this often
+unfoldable pub countIs : Text → ℕ → Rec → Bool
+countIs t n p = same t (text p 4) && eqb n (doseOf p)
 
 -- one of these gives its antigen as often
 unfoldable pub countIn : List Rec → Rec → Bool
