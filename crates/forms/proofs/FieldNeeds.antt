@@ -131,7 +131,7 @@ module _ (t : Text) (f s : ℕ) (e : s ≡ fieldsLen f t) where
 
 pub ruleset for-behind = (needs, behind-in, behind-is)
 
-field-behind : (t u : Text) (f j : ℕ) → u ≡ drop (fieldsLen f t) t → fieldOf u (suc j) ≡ fieldOf t (suc (f + j))
+pub field-behind : (t u : Text) (f j : ℕ) → u ≡ drop (fieldsLen f t) t → fieldOf u (suc j) ≡ fieldOf t (suc (f + j))
 unfolding fieldOf
 field-behind t u f j e = ap (λ (s : Text). getD (fieldsOf s) j []) e ∙ rw (fields-after f t) (getD-drop f (fieldsOf t) j [])
 

@@ -12,16 +12,17 @@ use lib.ListN.{length, take, drop}
 use Rattle.house.specs.Text.{Text, any, all, same, run, number, isDigit}
 use Rattle.house.proofs.Small.{both}
 use Rattle.lines.specs.declared.LineAt.{LineAt}
-use Rattle.lines.specs.Lines.{fieldOf, LineIs}
+use Rattle.lines.specs.Lines.{fieldOf, fieldsLen, LineIs}
 use Rattle.lines.specs.Records.{Rec, recordOf, recOf, recs}
 use Rattle.lines.proofs.LineLaws.{left-falls}
 use Rattle.lines.proofs.PartLaws.{recs-past, recs-on}
-use Rattle.rules.specs.Forms.{countForm, isCount, isSound}
+use Rattle.rules.specs.Forms.{text, countForm, isCount, isSound}
 use Rattle.rules.specs.Rules.{sameAntigen, doseOf, sameCount, allIn, countsSound, setsDiffer}
 use Rattle.texts.specs.Leaves.{valueOf}
 use Rattle.texts.proofs.TextLaws.{value-run}
-use Rattle.forms.specs.Leaves.{soundAs, antigenIs, lotIs, countIn, soundCount}
+use Rattle.forms.specs.Leaves.{soundAs, antigenIs, lotIs, doseIn, countIs, countIn, soundCount}
 use Rattle.forms.proofs.FieldLaws.{text-is, kind-is, sound-as}
+use Rattle.forms.proofs.FieldNeeds.{field-behind}
 
 -- Loops over lines that ask the same of each
 module _ (p : Rec → Bool) (s : Text) (at : ℕ) (x : Bool) where
@@ -51,11 +52,7 @@ pub counts-start : (ls : List Rec) → countsSound ls ≡ all soundCount ls
 unfolding countsSound soundCount
 counts-start ls = refl
 
-pub count-start : (ls : List Rec) (l : Rec) → countIn ls l ≡ any (sameCount l) ls
-unfolding countIn
-count-start ls l = refl
-
-pub ruleset for-any-line = (needs, count-start, any-past, any-here, any-next, left-falls)
+pub ruleset for-any-line = (needs, any-past, any-here, any-next, left-falls)
 
 pub ruleset for-all-lines = (needs, counts-start, all-past, all-here, all-next, left-falls)
 
@@ -88,32 +85,51 @@ module _ (l t : Text) (k : ℕ) (d : k ≡ recordOf l) where
 
 pub ruleset for-lot = (needs, lot-kind, lot-other, lot-here)
 
--- dose_of, same_count
+-- dose_of
 count-value : (t : Text) → isCount t ≡ true → valueOf t ≡ number t
 unfolding isCount countForm
 count-value t h = value-run t 1 2 (omega arith) (omega arith) (both (run 1 2 isDigit t) _ h .0)
 
-module _ (l t : Text) (d : t ≡ fieldOf l 5) (x : Bool) (e : x ≡ isCount t) where
-  pub dose-none : x ≡ false → 0 ≡ doseOf (recOf l)
-  unfolding doseOf
-  dose-none h = rw (text-is l 5, ← d, ← e, h)
+module _ (t : Text) (x : Bool) (e : x ≡ isCount t) where
+  pub dose-none : x ≡ false → 0 ≡ doseIn t
+  unfolding doseIn
+  dose-none h = rw (← e, h)
 
-  pub dose-is : (n : ℕ) → x ≡ true → n ≡ valueOf t → n ≡ doseOf (recOf l)
-  unfolding doseOf
-  dose-is n h k = rw (text-is l 5, ← d, ← e, h) (k ∙ count-value t (sym e ∙ h))
+  pub dose-is : (n : ℕ) → x ≡ true → n ≡ valueOf t → n ≡ doseIn t
+  unfolding doseIn
+  dose-is n h k = rw (← e, h) (k ∙ count-value t (sym e ∙ h))
 
 pub ruleset for-dose = (needs, dose-none, dose-is)
 
-module _ (a b t u : Text) (d : t ≡ fieldOf a 4) (f : u ≡ fieldOf b 4) (x : Bool) (e : x ≡ same t u) where
-  pub count-other : x ≡ false → false ≡ sameCount (recOf a) (recOf b)
-  unfolding sameCount sameAntigen
-  count-other h = rw (text-is a 4, text-is b 4, ← d, ← f, ← e, h)
+counts-are : (l : Rec) (t : Text) (n : ℕ) (ls : List Rec) → t ≡ text l 4 → n ≡ doseOf l → any (countIs t n) ls ≡ countIn ls l
+unfolding countIn countIs sameCount sameAntigen
+counts-are l t n ls d e = rw (d, e)
 
-  pub count-same : (m n : ℕ) → x ≡ true → m ≡ doseOf (recOf a) → n ≡ doseOf (recOf b) → eqb m n ≡ sameCount (recOf a) (recOf b)
-  unfolding sameCount sameAntigen
-  count-same m n h p q = rw (text-is a 4, text-is b 4, ← d, ← f, ← e, h, p, q)
+-- has_count, count_among: a line l goes on at its field 4
+module _ (l v u : Text) (c : v ≡ drop (fieldsLen 3 l) l) (d : u ≡ fieldOf v 1) where
+  antigen-is : text (recOf l) 4 ≡ u
+  antigen-is = text-is l 4 ∙ sym (d ∙ field-behind l v 3 0 c)
 
-pub ruleset for-same-count = (needs, count-other, count-same)
+  -- and at its field 5
+  module _ (w r : Text) (n : ℕ) (f : w ≡ drop (fieldsLen 1 v) v) (g : r ≡ fieldOf w 1) (k : n ≡ doseIn r) where
+    dose-there : doseOf (recOf l) ≡ n
+    unfolding doseOf doseIn
+    dose-there = rw (text-is l 5, ← field-behind l v 3 1 c, ← field-behind v w 1 0 f, ← g) (sym k)
+
+    pub count-here : (t : Text) (m : ℕ) (x : Bool) → x ≡ same t u → x ≡ true → eqb m n ≡ countIs t m (recOf l)
+    unfolding countIs
+    count-here t m x e h = rw (antigen-is, ← e, h, dose-there)
+
+    pub count-among : (ls : List Rec) (x : Bool) → x ≡ any (countIs u n) ls → x ≡ countIn ls (recOf l)
+    count-among ls x e = e ∙ counts-are (recOf l) u n ls (sym antigen-is) (sym dose-there)
+
+  pub count-other : (t : Text) (m : ℕ) (x : Bool) → x ≡ same t u → x ≡ false → false ≡ countIs t m (recOf l)
+  unfolding countIs
+  count-other t m x e h = rw (antigen-is, ← e, h)
+
+pub ruleset for-has-count = (needs, count-other, count-here)
+
+pub ruleset for-count-among = (needs, count-among)
 
 -- sets_differ, count_sound
 module _ (a b : List Rec) (x : Bool) (e : x ≡ all (countIn b) a) where

@@ -5,10 +5,11 @@ use mathlib.Core.Bool.{Bool, not, cond, _&&_, _||_}
 use mathlib.Core.List.{List}
 use lib.Dec.{eqb, ltb}
 use Rattle.house.specs.Text.{Text, bytes, any, within, isEmpty, same, number}
+use Rattle.lines.specs.Lines.{fieldOf}
 use Rattle.lines.specs.Records.{Rec, IP, II, IE, IN, isKind}
 use Rattle.house.specs.Dates.{isDate}
-use Rattle.rules.specs.Forms.{text, formOf, isJudged, isRelaxed, isMissing, isMisformed, isSound}
-use Rattle.rules.specs.Rules.{sameCount}
+use Rattle.rules.specs.Forms.{text, formOf, isJudged, isRelaxed, isMissing, isMisformed, isSound, isType, isCode, isCount}
+use Rattle.rules.specs.Rules.{doseOf, sameCount}
 
 -- II 18 and 19 relax an event: "18 is neither empty nor AB, or 18 is empty and 19 is not"
 unfoldable pub refusedBy : Text → Text → Bool
@@ -73,6 +74,14 @@ lotIs t p = isKind II p && (isSound II p 15 && same t (text p 15))
 unfoldable pub lotLater : Text → List Rec → ℕ
 lotLater t ps = cond (any (lotIs t) ps) 14 0
 
+-- a count as a number; 0 where it is not sound
+unfoldable pub doseIn : Text → ℕ
+doseIn t = cond (isCount t) (number t) 0
+
+-- it gives this antigen this often
+unfoldable pub countIs : Text → ℕ → Rec → Bool
+countIs t n p = same t (text p 4) && eqb n (doseOf p)
+
 -- one of these gives its antigen as often
 unfoldable pub countIn : List Rec → Rec → Bool
 countIn ps l = any (sameCount l) ps
@@ -81,6 +90,20 @@ countIn ps l = any (sameCount l) ps
 unfoldable pub soundCount : Rec → Bool
 soundCount l = isSound IE l 4 && isSound IE l 5
 
--- fields 6 and 8 of an II are sound
-unfoldable pub datedCode : Rec → Bool
-datedCode l = isSound II l 6 && isSound II l 8
+-- Blocks: what is asked of an II from a field on, which is the first of the text
+
+-- from its field 6 on: its date and its vaccine are sound
+unfoldable pub datedFrom : Text → Bool
+datedFrom t = isDate (fieldOf t 1) && isCode (fieldOf t 3)
+
+-- from its field 4 on: its type is sound too
+unfoldable pub typedFrom : Text → Bool
+typedFrom t = isType (fieldOf t 1) && (isDate (fieldOf t 3) && isCode (fieldOf t 5))
+
+-- two of them, from field 6 on, have one date and one vaccine
+unfoldable pub sameDated : Text → Text → Bool
+sameDated t u = same (fieldOf t 1) (fieldOf u 1) && same (fieldOf t 3) (fieldOf u 3)
+
+-- from field 4 on: one type too
+unfoldable pub sameTyped : Text → Text → Bool
+sameTyped t u = same (fieldOf t 1) (fieldOf u 1) && (same (fieldOf t 3) (fieldOf u 3) && same (fieldOf t 5) (fieldOf u 5))

@@ -157,7 +157,7 @@ fn is_judged(kind: u8, f: usize) -> bool
 }
 
 // A line's text behind its first f fields.
-fn behind(text: &[u8], f: usize) -> &[u8]
+pub(crate) fn behind(text: &[u8], f: usize) -> &[u8]
     ensures { λ r. ⌜ now r ≡ drop (fieldsLen f (now (text .entry))) (now (text .entry)) ⌝ }
 {
     let start = lines::field_start(text, f);

@@ -1,15 +1,17 @@
 // What is asked of the lines of a part of the file: antigens, counts and lots given before.
+use crate::fields::behind;
 use crate::fields::is_sound;
 use crate::fields::sound_text;
 use lines::IE;
 use lines::II;
+use lines::field_from;
 use texts::is_count;
 use texts::value;
 ghost use mathlib.Core.Path.{_≡_};
 ghost use Rattle.house.specs.Text.{any, all};
 ghost use Rattle.lines.specs.Records.{recOf, recs};
-ghost use Rattle.rules.specs.Rules.{doseOf, sameCount, countsSound, setsDiffer};
-ghost use Rattle.forms.specs.Leaves.{antigenIs, lotIs, countIn, soundCount};
+ghost use Rattle.rules.specs.Rules.{countsSound, setsDiffer};
+ghost use Rattle.forms.specs.Leaves.{antigenIs, lotIs, doseIn, countIs, countIn, soundCount};
 
 // Whether a line gives this antigen.
 fn has_antigen(line: &[u8], t: &[u8]) -> bool
@@ -65,39 +67,48 @@ pub(crate) fn any_lot(t: &[u8], block: &[u8]) -> bool
     false
 }
 
-// The count of an IE as a number, 0 where it is not sound.
-fn dose_of(line: &[u8]) -> u32
-    ensures { λ r. ⌜ r ≡ doseOf (recOf (now (line .entry))) ⌝ }
+// A count as a number, 0 where it is not sound.
+fn dose_of(t: &[u8]) -> u32
+    ensures { λ r. ⌜ r ≡ doseIn (now (t .entry)) ⌝ }
 {
-    let t = lines::field_of(line, 5);
     if is_count(t) { value(t) } else { 0 }
 }
 
-// Whether two lines give one antigen equally often.
-fn same_count(a: &[u8], b: &[u8]) -> bool
-    ensures { λ r. ⌜ r ≡ sameCount (recOf (now (a .entry))) (recOf (now (b .entry))) ⌝ }
+// Whether a line gives this antigen this often.
+fn has_count(line: &[u8], t: &[u8], dose: u32) -> bool
+    ensures { λ r. ⌜ r ≡ countIs (now (t .entry)) dose (recOf (now (line .entry))) ⌝ }
 {
-    if house::same(lines::field_of(a, 4), lines::field_of(b, 4)) {
-        dose_of(a) == dose_of(b)
+    let fourth = behind(line, 3);
+    if house::same(t, field_from(fourth, 0)) {
+        dose == dose_of(field_from(behind(fourth, 1), 0))
     } else {
         false
     }
+}
+
+// Whether one of these lines gives this antigen this often.
+fn any_count(t: &[u8], dose: u32, others: &[u8]) -> bool
+    ensures { λ r. ⌜ r ≡ any (countIs (now (t .entry)) dose) (recs (now (others .entry))) ⌝ }
+{
+    let mut at = 0;
+    while at < others.len() {
+        let l = lines::line_at(others, at);
+        let end = l.end;
+        if has_count(&others[at..end], t, dose) {
+            return true;
+        }
+        at = l.next;
+    }
+    false
 }
 
 // Whether one of these lines gives the line's antigen as often.
 fn count_among(line: &[u8], others: &[u8]) -> bool
     ensures { λ r. ⌜ r ≡ countIn (recs (now (others .entry))) (recOf (now (line .entry))) ⌝ }
 {
-    let mut at = 0;
-    while at < others.len() {
-        let l = lines::line_at(others, at);
-        let end = l.end;
-        if same_count(line, &others[at..end]) {
-            return true;
-        }
-        at = l.next;
-    }
-    false
+    let fourth = behind(line, 3);
+    let dose = dose_of(field_from(behind(fourth, 1), 0));
+    any_count(field_from(fourth, 0), dose, others)
 }
 
 // Whether each line's antigen is given as often among the others.

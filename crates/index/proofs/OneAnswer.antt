@@ -7,7 +7,7 @@ use Prim.Native.Nat.{ℕ}
 use lib.ListN.{length}
 use Rattle.house.specs.Text.{Text}
 use Rattle.index.specs.declared.Built.{Built}
-use Rattle.index.specs.Firsts.{firstsOf, over, builtOf, builtIn, partOf, foundBefore}
+use Rattle.index.specs.Firsts.{over, builtOf, builtIn, partOf, foundBefore}
 
 one : {A : Type 0} {x r q : A} → r ≡ x → q ≡ x → r ≡ q
 one e f = e ∙ sym f
@@ -15,9 +15,6 @@ one e f = e ∙ sym f
 -- an answer, and the places left
 two : {A : Type 0} {x r q : A} {z s t : List ℕ} → (r ≡ x) × (s ≡ z) → (q ≡ x) × (t ≡ z) → (r ≡ q) × (s ≡ t)
 two e g = (one (e .0) (g .0), one (e .1) (g .1))
-
-count-blocks : (f : Text) (r q : ℕ) → r ≡ length (firstsOf f) → q ≡ length (firstsOf f) → r ≡ q
-count-blocks f r q = one
 
 build : (f : Text) (area : List ℕ) (r q : Built) (s t : List ℕ) → (r ≡ builtOf f (length area)) × (s ≡ builtIn f area) → (q ≡ builtOf f (length area)) × (t ≡ builtIn f area)
     → (r ≡ q) × (s ≡ t)

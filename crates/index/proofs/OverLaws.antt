@@ -5,7 +5,7 @@ use mathlib.Core.List.{List, [], _∷_, _++_}
 use Prim.Native.Nat.{ℕ, _≤_}
 use native.Mathlib.Nat.{add-zero}
 use native.Mathlib.Omega.{arith}
-use lib.ListN.{length, take, drop}
+use lib.ListN.{length, take, drop, set}
 use lib.Seq.{take-at}
 use Rattle.house.specs.Text.{Text}
 use Rattle.events.specs.Events.{eventAt}
@@ -21,6 +21,13 @@ over-front (x ∷ xs) (y ∷ out) h = ap (λ (l : List ℕ). x ∷ l) (over-fron
 -- what is written is read there
 pub over-taken : (xs out : List ℕ) (n : ℕ) → length xs ≡ n → length xs ≤ length out → take n (over xs out) ≡ xs
 over-taken xs out n e h = ap (take n) (over-front xs out h) ∙ take-at xs (drop (length xs) out) n e
+
+-- one more is written behind the others
+pub over-more : (xs : List ℕ) (x : ℕ) (out : List ℕ) → over (xs ++ (x ∷ [])) out ≡ set (over xs out) (length xs) x
+over-more [] x [] = refl
+over-more [] x (y ∷ out) = refl
+over-more (z ∷ xs) x [] = refl
+over-more (z ∷ xs) x (y ∷ out) = ap (λ (l : List ℕ). z ∷ l) (over-more xs x out)
 
 -- the area keeps its length
 pub length-over : (xs out : List ℕ) → length (over xs out) ≡ length out

@@ -4,12 +4,11 @@ use mathlib.Core.Path.{_≡_, refl, sym, ap, ap₂, _∙_}
 use mathlib.Core.Bool.{Bool, true, false, not, cond, _&&_}
 use mathlib.Core.List.{List, [], _∷_, _++_, append-assoc, append-nil}
 use Prim.Native.Nat.{ℕ, _+_, _-_, _≤_, _<_}
-use native.Mathlib.Numerals.{add-one}
 use native.Mathlib.Omega.{arith}
 use borrow.Author.Needs.{needs}
 use borrow.Author.Tests.{eq-eqb, ne-eqb, le-leb, lt-leb}
-use lib.ListN.{length, take, drop, set, length-set, length-append, take-append-drop}
-use lib.Seq.{take-at, drop-at, take-suc-set, drop-set-lt, drop-drop, length-take-le}
+use lib.ListN.{length, take, drop, set, length-set, length-append}
+use lib.Seq.{take-at, drop-at, length-take-le}
 use Rattle.house.specs.Text.{Text}
 use Rattle.house.proofs.Small.{clash}
 use Rattle.house.proofs.Facts.{of-true}
@@ -27,7 +26,7 @@ use Rattle.index.specs.Firsts.{startAfter, firstsOf, indexOf, over, canB
 use Rattle.index.specs.Inside.{recAt, nextLine, firstsFrom, turnOf, Walk}
 use Rattle.index.proofs.PassLaws.{start-on, next-past, recs-at, firsts-on, firsts-start, firsts-none}
 use Rattle.index.proofs.NamedLaws.{not-IE}
-use Rattle.index.proofs.OverLaws.{over-front, index-size}
+use Rattle.index.proofs.OverLaws.{over-front, over-more, length-over, index-size}
 
 -- is_apart, left_open
 rec-at : (f : Text) (p : ℕ) (t : Text) → t ≡ lineOf (drop p f) .text → recOf t ≡ recAt f p
@@ -137,96 +136,53 @@ module _ (f : Text) (at last : ℕ) (done : List ℕ) (w : Walk f at last done) 
     pub walk-other : t .first ≡ false → Walk f (t .next) (t .last) done
     walk-other z = record { before = l ∷ w .before; start = new-start; head = new-head; found = w .found ∙ rw (rest, z) }
 
--- count_blocks
-pub record Counting (f : Text) (at last n : ℕ) : Type 0 where
-  pub done : List ℕ
-  pub walk : Walk f at last done
-  pub size : n ≡ length done
-  pub few : n ≤ at
-
-pub count-start : (f : Text) → Counting f 0 (length f) 0
-count-start f = record { done = []; walk = walk-start f; size = refl; few = omega arith }
-
-module _ (f : Text) (at last n : ℕ) (c : Counting f at last n) where
-  pub count-end : length f ≤ at → n ≡ length (firstsOf f)
-  count-end h = c .size ∙ ap length (sym (walk-end f at last (c .done) (c .walk) h))
-
-  module _ (h : at < length f) (t : Turn) (e : t ≡ turnOf f at last) where
-    pub count-falls : length f - t .next < length f - at
-    count-falls = walk-falls f at last (c .done) (c .walk) h t e
-
-    pub count-first : t .first ≡ true → Counting f (t .next) (t .last) (n + 1)
-    count-first z =
-        record {
-          done = c .done ++ (at ∷ []);
-          walk = walk-first f at last (c .done) (c .walk) h t e z;
-          size = omega (arith, c .size, length-append (c .done) (at ∷ []));
-          few = omega (arith, c .few, walk-past f at last (c .done) (c .walk) h t e);
-        }
-
-    pub count-other : t .first ≡ false → Counting f (t .next) (t .last) n
-    count-other z =
-        record {
-          done = c .done;
-          walk = walk-other f at last (c .done) (c .walk) h t e z;
-          size = c .size;
-          few = omega (arith, c .few, walk-past f at last (c .done) (c .walk) h t e);
-        }
-
-pub ruleset for-count-blocks = (needs, count-start, count-end, count-falls, count-first, count-other)
-
--- gather
+-- gather: the blocks passed are written to the front of the area, as many as fit
 module _ (f : Text) (old : List ℕ) where
   pub record Gathering (index : List ℕ) (at last n : ℕ) : Type 0 where
-    pub walk : Walk f at last (take n index)
-    pub size : length index ≡ length old
-    pub upto : n ≤ length index
-    pub ahead : drop n index ≡ drop n old
+    pub done : List ℕ
+    pub walk : Walk f at last done
+    pub size : n ≡ length done
+    pub few : n ≤ at
+    pub room : length index ≡ length old
+    pub written : index ≡ over done old
 
   pub gather-start : Gathering old 0 (length f) 0
-  gather-start = record { walk = walk-start f; size = refl; upto = omega arith; ahead = refl }
+  gather-start = record { done = []; walk = walk-start f; size = refl; few = omega arith; room = refl; written = refl }
 
   module _ (index : List ℕ) (at last n : ℕ) (g : Gathering index at last n) where
+    pub gather-count : length f ≤ at → n ≡ length (firstsOf f)
+    gather-count h = g .size ∙ ap length (sym (walk-end f at last (g .done) (g .walk) h))
+
     pub gather-end : length f ≤ at → index ≡ over (firstsOf f) old
-    gather-end h =
-        let e : firstsOf f ≡ take n index = walk-end f at last (take n index) (g .walk) h in
-        let l : length (take n index) ≡ n = length-take-le n index (g .upto) in
-        sym (ap (λ (xs : List ℕ). over xs old) e ∙ over-front (take n index) old (omega (arith, g .size, g .upto)) ∙ rw (l, ← g .ahead) (take-append-drop n index))
+    gather-end h = g .written ∙ ap (λ (xs : List ℕ). over xs old) (sym (walk-end f at last (g .done) (g .walk) h))
 
     module _ (h : at < length f) (t : Turn) (e : t ≡ turnOf f at last) where
       pub gather-falls : length f - t .next < length f - at
-      gather-falls = walk-falls f at last (take n index) (g .walk) h t e
+      gather-falls = walk-falls f at last (g .done) (g .walk) h t e
 
       pub gather-other : t .first ≡ false → Gathering index (t .next) (t .last) n
-      gather-other z = record { walk = walk-other f at last (take n index) (g .walk) h t e z; size = g .size; upto = g .upto; ahead = g .ahead }
+      gather-other z =
+          record {
+            done = g .done;
+            walk = walk-other f at last (g .done) (g .walk) h t e z;
+            size = g .size;
+            few = omega (arith, g .few, walk-past f at last (g .done) (g .walk) h t e);
+            room = g .room;
+            written = g .written;
+          }
 
-      module _ (z : t .first ≡ true) (room : length (firstsOf f) ≤ length old) where
-        on : Walk f (t .next) (t .last) (take n index ++ (at ∷ []))
-        on = walk-first f at last (take n index) (g .walk) h t e z
+      pub gather-first : (new : List ℕ) → t .first ≡ true → new ≡ set index n at → Gathering new (t .next) (t .last) (n + 1)
+      gather-first new z w =
+          record {
+            done = g .done ++ (at ∷ []);
+            walk = walk-first f at last (g .done) (g .walk) h t e z;
+            size = omega (arith, g .size, length-append (g .done) (at ∷ []));
+            few = omega (arith, g .few, walk-past f at last (g .done) (g .walk) h t e);
+            room = ap length w ∙ length-set index n at ∙ g .room;
+            written = w ∙ rw (g .written, g .size) (sym (over-more (g .done) at old));
+          }
 
-        pub gather-in : n < length index
-        gather-in =
-            let rest : List ℕ = firstsFrom f (on .before) (recs (drop (t .next) f)) in
-            omega (
-              arith,
-              g .size,
-              g .upto,
-              ap length (on .found),
-              length-append (take n index ++ (at ∷ [])) rest,
-              length-append (take n index) (at ∷ []),
-              length-take-le n index (g .upto),
-            )
-
-        pub gather-first : Gathering (set index n at) (t .next) (t .last) (n + 1)
-        gather-first =
-            record {
-              walk = rw (add-one n, take-suc-set index n at gather-in) on;
-              size = length-set index n at ∙ g .size;
-              upto = omega (arith, length-set index n at, gather-in);
-              ahead = drop-set-lt (n + 1) index n at (omega arith) ∙ sym (drop-drop 1 n index) ∙ ap (drop 1) (g .ahead) ∙ drop-drop 1 n old;
-            }
-
-pub ruleset for-gather = (needs, gather-start, gather-end, gather-falls, gather-other, gather-in, gather-first)
+pub ruleset for-gather = (needs, gather-start, gather-count, gather-end, gather-falls, gather-other, gather-first)
 
 -- sort_front
 pub front-size : (n : ℕ) (old : List ℕ) → n ≤ length old → n ≡ length (take n old)
@@ -247,59 +203,69 @@ module _ (f : Text) (old : List ℕ) where
   unfolding builtIn canBuild
   kept-long h = rw (lt-leb (length f) 5000000 h)
 
-  module _ (h : length f ≤ 5000000) (n : ℕ) (e : n ≡ length (firstsOf f)) where
-    pub build-many : 96154 < n → TooMany ≡ builtOf f (length old)
-    unfolding builtOf canBuild
-    build-many g = rw (le-leb (length f) 5000000 h, ← e, lt-leb n 96154 g)
+  module _ (h : length f ≤ 5000000) (n : ℕ) (e : n ≡ length (firstsOf f)) (new : List ℕ) (i : new ≡ over (firstsOf f) old) where
+    new-size : length new ≡ length old
+    new-size = ap length i ∙ length-over (firstsOf f) old
 
-    pub kept-many : 96154 < n → old ≡ builtIn f old
-    unfolding builtIn canBuild
-    kept-many g = rw (le-leb (length f) 5000000 h, ← e, lt-leb n 96154 g)
+    firsts-left : canBuild f (length old) ≡ false → new ≡ builtIn f old
+    unfolding builtIn
+    firsts-left z = rw (z, le-leb (length f) 5000000 h) i
+
+    too-many : 96154 < n → canBuild f (length old) ≡ false
+    unfolding canBuild
+    too-many g = rw (le-leb (length f) 5000000 h, ← e, lt-leb n 96154 g)
+
+    pub build-many : 96154 < n → TooMany ≡ builtOf f (length old)
+    unfolding builtOf
+    build-many g = rw (too-many g)
+
+    pub kept-many : 96154 < n → new ≡ builtIn f old
+    kept-many g = firsts-left (too-many g)
 
     module _ (g : n ≤ 96154) where
-      pub build-short : length old < n → TooMany ≡ builtOf f (length old)
-      unfolding builtOf canBuild
-      build-short k = rw (le-leb (length f) 5000000 h, ← e, le-leb n 96154 g, lt-leb n (length old) k)
+      too-short : length new < n → canBuild f (length old) ≡ false
+      unfolding canBuild
+      too-short k = rw (le-leb (length f) 5000000 h, ← e, le-leb n 96154 g, ← new-size, lt-leb n (length new) k)
 
-      pub kept-short : length old < n → old ≡ builtIn f old
-      unfolding builtIn canBuild
-      kept-short k = rw (le-leb (length f) 5000000 h, ← e, le-leb n 96154 g, lt-leb n (length old) k)
+      pub build-short : length new < n → TooMany ≡ builtOf f (length old)
+      unfolding builtOf
+      build-short k = rw (too-short k)
 
-      module _ (k : n ≤ length old) where
-        pub build-room : length (firstsOf f) ≤ length old
-        build-room = omega arith
+      pub kept-short : length new < n → new ≡ builtIn f old
+      kept-short k = firsts-left (too-short k)
+
+      module _ (k : n ≤ length new) where
+        can : canBuild f (length old) ≡ true
+        unfolding canBuild
+        can = rw (le-leb (length f) 5000000 h, ← e, le-leb n 96154 g, ← new-size, le-leb n (length new) k)
 
         pub build-done : Blocks n ≡ builtOf f (length old)
-        unfolding builtOf canBuild
-        build-done = rw (le-leb (length f) 5000000 h, ← e, le-leb n 96154 g, le-leb n (length old) k)
+        unfolding builtOf
+        build-done = rw (can, ← e)
 
-        module _ (new : List ℕ) (i : new ≡ over (firstsOf f) old) where
-          is-new : new ≡ firstsOf f ++ drop n old
-          is-new = i ∙ over-front (firstsOf f) old build-room ∙ rw (← e)
+        is-new : new ≡ firstsOf f ++ drop n old
+        is-new = i ∙ over-front (firstsOf f) old (omega (arith, new-size)) ∙ rw (← e)
 
-          pub build-part : n ≤ length new
-          build-part = omega (arith, ap length is-new, length-append (firstsOf f) (drop n old))
+        front : take n new ≡ firstsOf f
+        front = ap (take n) is-new ∙ take-at (firstsOf f) (drop n old) n (sym e)
 
-          front : take n new ≡ firstsOf f
-          front = ap (take n) is-new ∙ take-at (firstsOf f) (drop n old) n (sym e)
+        back : drop n new ≡ drop n old
+        back = ap (drop n) is-new ∙ drop-at (firstsOf f) (drop n old) n (sym e)
 
-          back : drop n new ≡ drop n old
-          back = ap (drop n) is-new ∙ drop-at (firstsOf f) (drop n old) n (sym e)
+        sorted : sortedAt f (firstsOf f) ≡ indexOf f
+        unfolding sortedAt canSort indexOf
+        sorted = rw (← e, le-leb n 96154 g)
 
-          sorted : sortedAt f (firstsOf f) ≡ indexOf f
-          unfolding sortedAt canSort indexOf
-          sorted = rw (← e, le-leb n 96154 g)
+        sorted-size : length (indexOf f) ≡ n
+        sorted-size = index-size f ∙ sym e
 
-          sorted-size : length (indexOf f) ≡ n
-          sorted-size = index-size f ∙ sym e
+        built : builtIn f old ≡ over (indexOf f) old
+        unfolding builtIn
+        built = rw can
 
-          built : builtIn f old ≡ over (indexOf f) old
-          unfolding builtIn canBuild
-          built = rw (le-leb (length f) 5000000 h, ← e, le-leb n 96154 g, le-leb n (length old) k)
+        pub build-index : (index : List ℕ) → index ≡ sortedAt f (take n new) ++ drop n new → index ≡ builtIn f old
+        build-index index j =
+            j ∙ ap₂ (λ (x y : List ℕ). x ++ y) (ap (sortedAt f) front ∙ sorted) back
+            ∙ sym (built ∙ over-front (indexOf f) old (omega (arith, sorted-size, new-size)) ∙ rw sorted-size)
 
-          pub build-index : (index : List ℕ) → index ≡ sortedAt f (take n new) ++ drop n new → index ≡ builtIn f old
-          build-index index j =
-              j ∙ ap₂ (λ (x y : List ℕ). x ++ y) (ap (sortedAt f) front ∙ sorted) back
-              ∙ sym (built ∙ over-front (indexOf f) old (omega (arith, sorted-size)) ∙ rw sorted-size)
-
-pub ruleset for-build = (needs, build-long, kept-long, build-many, kept-many, build-short, kept-short, build-room, build-done, build-part, build-index)
+pub ruleset for-build = (needs, build-long, kept-long, build-many, kept-many, build-short, kept-short, build-done, build-index)

@@ -62,9 +62,10 @@ canBuild f n = leb (length f) bytesMost && (leb (length (firstsOf f)) placesMost
 unfoldable pub builtOf : Text → ℕ → Built
 builtOf f n = cond (canBuild f n) (Blocks (length (firstsOf f))) TooMany
 
--- the area after; as it was where the index is not built
+-- the area after: the index in its front. Where the index is not built: the first II lines in the file's order, as many as fit; of a file that
+-- is too long none is looked for, and the area is as it was.
 unfoldable pub builtIn : Text → List ℕ → List ℕ
-builtIn f area = cond (canBuild f (length area)) (over (indexOf f) area) area
+builtIn f area = cond (canBuild f (length area)) (over (indexOf f) area) (cond (leb (length f) bytesMost) (over (firstsOf f) area) area)
 
 -- Submission types
 

@@ -9,7 +9,6 @@ pub use parts::count_of;
 pub use parts::keep;
 pub use parts::part_of;
 pub use walk::build;
-pub use walk::count_blocks;
 
 // An index is built, of so many blocks, or there are too many.
 pub enum Built {

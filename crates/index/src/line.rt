@@ -1,6 +1,6 @@
-// The line at a place.
+// The line at a place, and places written into an area.
 ghost use mathlib.Core.Path.{_≡_};
-ghost use lib.ListN.{drop};
+ghost use lib.ListN.{drop, set};
 ghost use Rattle.lines.specs.Lines.{lineOf};
 
 // A place, as a position in the file.
@@ -20,4 +20,13 @@ pub(crate) fn line_text(file: &[u8], at: usize) -> &[u8]
     let line = lines::line_at(file, at);
     let end = line.end;
     &file[at..end]
+}
+
+// Writes a place into an area, if there is room at n.
+pub(crate) fn put(out: &mut [u32], n: usize, p: u32)
+    ensures { λ _. ⌜ now (out .exit) ≡ set (now (out .entry)) n p ⌝ }
+{
+    if n < out.len() {
+        out[n] = p;
+    }
 }

@@ -1,7 +1,8 @@
 // The parts of an index by submission type.
+use crate::line::put;
 use crate::line::wide;
 ghost use mathlib.Core.Path.{_≡_};
-ghost use lib.ListN.{length, set};
+ghost use lib.ListN.{length};
 ghost use Rattle.index.specs.Firsts.{over, isTyped, partOf};
 
 // Whether the line at a place is of a type.
@@ -28,15 +29,6 @@ pub fn count_of(file: &[u8], places: &[u32], letter: u8) -> usize
         i += 1;
     }
     n
-}
-
-// Writes a place into an area, if there is room at n.
-fn put(out: &mut [u32], n: usize, p: u32)
-    ensures { λ _. ⌜ now (out .exit) ≡ set (now (out .entry)) n p ⌝ }
-{
-    if n < out.len() {
-        out[n] = p;
-    }
 }
 
 // Writes those of these places whose lines are of a type to the front of an area, as many as fit; how many there are.

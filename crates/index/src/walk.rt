@@ -2,6 +2,7 @@
 use crate::Built;
 use crate::Turn;
 use crate::line::line_text;
+use crate::line::put;
 use forms::in_block;
 use forms::joins;
 ghost use mathlib.Core.Path.{_≡_};
@@ -59,29 +60,10 @@ fn turn(file: &[u8], at: usize, last: usize) -> Turn
     }
 }
 
-// How many blocks a file has.
-pub fn count_blocks(file: &[u8]) -> usize
-    ensures { λ r. ⌜ r ≡ length (firstsOf (now (file .entry))) ⌝ }
-{
-    let mut n: usize = 0;
-    let mut at = 0;
-    let mut last = file.len();
-    while at < file.len() {
-        let t = turn(file, at, last);
-        at = t.next;
-        last = t.last;
-        if t.first {
-            n += 1;
-            continue;
-        }
-    }
-    n
-}
-
-// Writes where each block's first II line starts to the front of an area with room for them.
-fn gather(file: &[u8], index: &mut [u32])
+// Writes where each block's first II line starts to the front of an area, as many as fit; how many blocks there are.
+fn gather(file: &[u8], index: &mut [u32]) -> usize
     requires { ⌜ length (now file) ≤ 5000000 ⌝ }
-    requires { ⌜ length (firstsOf (now file)) ≤ length (now index) ⌝ }
+    ensures { λ r. ⌜ r ≡ length (firstsOf (now (file .entry))) ⌝ }
     ensures { λ _. ⌜ now (index .exit) ≡ over (firstsOf (now (file .entry))) (now (index .entry)) ⌝ }
 {
     let mut n: usize = 0;
@@ -93,11 +75,12 @@ fn gather(file: &[u8], index: &mut [u32])
         at = t.next;
         last = t.last;
         if t.first {
-            index[n] = here as u32;
+            put(index, n, here as u32);
             n += 1;
             continue;
         }
     }
+    n
 }
 
 // Puts the first n places in the order of their events.
@@ -116,14 +99,13 @@ pub fn build(file: &[u8], index: &mut [u32]) -> Built
     if 5000000 < file.len() {
         return Built::TooMany;
     }
-    let n = count_blocks(file);
+    let n = gather(file, index);
     if 96154 < n {
         return Built::TooMany;
     }
     if index.len() < n {
         return Built::TooMany;
     }
-    gather(file, index);
     sort_front(file, index, n);
     Built::Blocks(n)
 }

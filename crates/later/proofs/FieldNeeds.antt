@@ -15,6 +15,7 @@ use Rattle.forms.specs.Leaves.{lowestIn, antigenIs}
 use Rattle.later.specs.declared.Day.{Day}
 use Rattle.later.specs.declared.Facts.{Facts}
 use Rattle.later.specs.Fields.{broken, codeLater, ledgerRule, codeBy, pairBy, lackBy, typeAt, vaccineAt, siteAt, methodAt, reasonAt, dosageAt, dosageTypeAt, antigenAt}
+use Rattle.later.proofs.LookLaws.{code-lacks}
 
 module _ (l : Rec) (x : Bool) (t : Text) (a b c : ℕ) where
   pub site-is : a ≡ lowestIn 4 x 9 t (codeLater (isEmpty t) (isSite t) false)
@@ -60,4 +61,4 @@ module _ (t : Text) (a b c : ℕ) where
   unfolding antigenAt
   antigen-is line head since book q day x y z = rw (x, y, z)
 
-pub ruleset for-parts = (needs, type-is, vaccine-is, site-is, method-is, reason-is, dosage-is, dosage-type-is, antigen-is)
+pub ruleset for-parts = (needs, code-lacks, type-is, vaccine-is, site-is, method-is, reason-is, dosage-is, dosage-type-is, antigen-is)

@@ -1,17 +1,17 @@
 -- What look-ups by texts say of codes as the book writes them.
 -- Assumes nothing.
 use mathlib.Core.Path.{_≡_, refl, sym, ap, _∙_, subst}
-use mathlib.Core.Bool.{Bool, true, false, not, cond, _&&_, _||_}
+use mathlib.Core.Bool.{Bool, true, false, not, cond, _&&_, _||_, and-false}
 use mathlib.Core.List.{[], _∷_, _++_}
 use Prim.Native.Nat.{ℕ, zero, suc, _+_, _≤_}
 use native.Mathlib.Omega.{arith}
 use borrow.Author.Needs.{needs}
-use borrow.Author.Tests.{eq-eqb, ne-eqb, leb-true, leb-false}
+use borrow.Author.Tests.{eq-eqb, ne-eqb, eqb-true, leb-true, leb-false}
 use lib.Dec.{eqb, leb}
 use lib.ListN.{length, drop, length-append}
 use Rattle.house.specs.Text.{Text, isEmpty}
 use Rattle.lines.specs.Lines.{fieldOf}
-use Rattle.lines.specs.Records.{recOf}
+use Rattle.lines.specs.Records.{Rec, recOf}
 use Rattle.book.specs.declared.Position.{Position}
 use Rattle.book.specs.declared.Sections.{Sections}
 use Rattle.book.specs.declared.Found.{Found}
@@ -22,11 +22,11 @@ use Rattle.book.specs.Book.{firstWidth, secondWidth, codeWidth, filled, codeTex
 use Rattle.book.specs.LookUp.{fits, foundIn, inForceAt, standingAt, standingIn}
 use Rattle.book.proofs.WidthLaws.{code-parts}
 use Rattle.book.proofs.StandingLaws.{filled-long}
-use Rattle.rules.specs.Forms.{text, formOf, isJudged}
+use Rattle.rules.specs.Forms.{text, formOf, isJudged, isGiven}
 use Rattle.forms.specs.Leaves.{optionalIn, lowestIn}
 use Rattle.forms.proofs.FieldLaws.{text-is, empty-true, empty-false}
 use Rattle.later.specs.Look.{foundBy, knownBy, forceBy}
-use Rattle.later.specs.Fields.{codeLater}
+use Rattle.later.specs.Fields.{codeLater, unpairedBy}
 
 -- a text with blanks behind it: as long as its width, unless it is longer
 filled-fits : (w : ℕ) (t : Text) → length t ≤ w → length (filled w t) ≡ w
@@ -182,7 +182,59 @@ module _ (a b x : Bool) (e : x ≡ a) where
 
 pub ruleset for-given = (needs, given-no, given-both)
 
--- pair_rule, the vaccine being field 8 of the head
+-- a code that the book lacks, by its verdict
+pub code-lacks : (k : ℕ) (x : Bool) (f : ℕ) (t : Text) (a : ℕ) (known out : Bool)
+    → a ≡ lowestIn k x f t (codeLater (isEmpty t) known out) → a ≡ 4 → known ≡ false
+unfolding lowestIn codeLater
+code-lacks k x f t a known out e h =
+    go (isJudged k f && not (optionalIn k x f) && isEmpty t) (not (formOf k f t) && not (isEmpty t)) (isEmpty t) known out (sym e ∙ h)
+  where
+    go : (m w n y z : Bool) → _≡_ {A = ℕ} (cond m 1 (cond w 2 (cond n 0 (cond y (cond z 5 0) 4)))) 4 → y ≡ false
+    go true w n y z p = absurd (omega arith)
+    go false true n y z p = absurd (omega arith)
+    go false false true y z p = absurd (omega arith)
+    go false false false true true p = absurd (omega arith)
+    go false false false true false p = absurd (omega arith)
+    go false false false false z p = refl
+
+-- is_unpaired
+module _ (k : ℕ) (l : Rec) (f a : ℕ) (t : Text) where
+  pub unpaired-unknown : a ≡ 4 → true ≡ unpairedBy a k l f t
+  unfolding unpairedBy
+  unpaired-unknown e = rw (eq-eqb a 4 e)
+
+  module _ (n : a ≡ 4 → ⊥) where
+    pub unpaired-filled : (length t ≡ 0 → ⊥) → false ≡ unpairedBy a k l f t
+    unfolding unpairedBy
+    unpaired-filled h = rw (ne-eqb a 4 n, empty-false t h)
+
+    module _ (h : length t ≡ 0) (x : Bool) (e : x ≡ isGiven k l f) where
+      pub unpaired-given : x ≡ true → false ≡ unpairedBy a k l f t
+      unfolding unpairedBy
+      unpaired-given g = rw (ne-eqb a 4 n, empty-true t h, ← e, g)
+
+      pub unpaired-empty : x ≡ false → true ≡ unpairedBy a k l f t
+      unfolding unpairedBy
+      unpaired-empty g = rw (ne-eqb a 4 n, empty-true t h, ← e, g)
+
+pub ruleset for-unpaired = (needs, unpaired-unknown, unpaired-filled, unpaired-given, unpaired-empty)
+
+-- pair_rule
+pub pair-none : (n a k : ℕ) (l : Rec) (f : ℕ) (t : Text) (x u y v : Bool) → (a ≡ 4 → y ≡ false) → x ≡ unpairedBy a k l f t → x ≡ true
+    → 0 ≡ cond (u && (isGiven k l f && y) && v) n 0
+unfolding unpairedBy
+pair-none n a k l f t x u y v p e h = go (eqb a 4) refl (isEmpty t) (isGiven k l f) (sym e ∙ h)
+  where
+    no-code : (m w : Bool) → w ≡ false → _≡_ {A = ℕ} 0 (cond (u && (m && w) && v) n 0)
+    no-code m w z = rw (z, and-false m, and-false u)
+
+    go : (m : Bool) → eqb a 4 ≡ m → (w g : Bool) → m || (w && not g) ≡ true → _≡_ {A = ℕ} 0 (cond (u && (g && y) && v) n 0)
+    go true z w g r = no-code g y (p (eqb-true a 4 z))
+    go false z true true r = absurd (let o : _≡_ {A = ℕ} 0 1 = cc in omega arith)
+    go false z true false r = rw (and-false u)
+    go false z false g r = absurd (let o : _≡_ {A = ℕ} 0 1 = cc in omega arith)
+
+-- the vaccine being field 8 of the head
 module _ (s : Text) (q : Sections) (head t code : Text) (p : t ≡ fieldOf head 8) where
   pub vaccine-known : (x u : Bool) → x ≡ u && knownBy s q 1 (codeText 1 t []) → x ≡ u && knownBy s q 1 (codeText 1 (text (recOf head) 8) [])
   vaccine-known x u e = rw (text-is head 8, ← p) e
@@ -211,4 +263,4 @@ module _ (n : ℕ) (a b c x : Bool) (e : x ≡ c) where
       pub pair-all : z ≡ true → n ≡ cond (a && b && c) n 0
       pair-all m = rw (← e, h, ← f, k, ← g, m)
 
-pub ruleset for-pair-rule = (needs, vaccine-known, pair-read, pair-a, pair-b, pair-c, pair-all)
+pub ruleset for-pair-rule = (needs, pair-none, vaccine-known, pair-read, pair-a, pair-b, pair-c, pair-all)

@@ -1,7 +1,7 @@
 -- What each need of the functions on an II's and an IE's later rules asks.
 -- Assumes nothing.
 use mathlib.Core.Path.{_≡_}
-use mathlib.Core.Bool.{Bool, true, false, cond, _&&_}
+use mathlib.Core.Bool.{Bool, true, false, cond, _&&_, and-false}
 use mathlib.Core.List.{[], _∷_}
 use Prim.Native.Nat.{ℕ}
 use borrow.Author.Needs.{needs}
@@ -76,22 +76,22 @@ module _ (r : ℕ) (a b c d : Bool) where
   pub set-a : a ≡ false → 0 ≡ cond (a && (b && (c && d))) r 0
   set-a h = rw h
 
-  module _ (h : a ≡ true) (x : Bool) (e : x ≡ b) where
-    pub set-b : x ≡ false → 0 ≡ cond (a && (b && (c && d))) r 0
-    set-b k = rw (h, ← e, k)
+  module _ (h : a ≡ true) (x : Bool) (e : x ≡ d) where
+    pub set-d : x ≡ false → 0 ≡ cond (a && (b && (c && d))) r 0
+    set-d k = rw (h, ← e, k, and-false c, and-false b)
 
-    module _ (k : x ≡ true) (y : Bool) (f : y ≡ c) where
-      pub set-c : y ≡ false → 0 ≡ cond (a && (b && (c && d))) r 0
-      set-c m = rw (h, ← e, k, ← f, m)
+    module _ (k : x ≡ true) (y : Bool) (f : y ≡ b) where
+      pub set-b : y ≡ false → 0 ≡ cond (a && (b && (c && d))) r 0
+      set-b m = rw (h, ← f, m)
 
-      module _ (m : y ≡ true) (z : Bool) (g : z ≡ d) where
-        pub set-d : z ≡ false → 0 ≡ cond (a && (b && (c && d))) r 0
-        set-d n = rw (h, ← e, k, ← f, m, ← g, n)
+      module _ (m : y ≡ true) (z : Bool) (g : z ≡ c) where
+        pub set-c : z ≡ false → 0 ≡ cond (a && (b && (c && d))) r 0
+        set-c n = rw (h, ← f, m, ← g, n)
 
         pub set-all : z ≡ true → r ≡ cond (a && (b && (c && d))) r 0
-        set-all n = rw (h, ← e, k, ← f, m, ← g, n)
+        set-all n = rw (h, ← f, m, ← g, n, ← e, k)
 
-pub ruleset for-set = (needs, set-a, set-b, set-c, set-d, set-all)
+pub ruleset for-set = (needs, set-a, set-d, set-b, set-c, set-all)
 
 -- ledger_rule
 module _ (inb live : Bool) (t : Text) where

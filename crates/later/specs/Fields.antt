@@ -35,6 +35,10 @@ abbrev pub codeBy : ℕ → Bool → ℕ → Text → ℕ → Text → Text → 
 codeBy k relaxed f t of code book q day =
     lowestIn k relaxed f t (codeLater (isEmpty t) (knownBy book q of (codeText of code [])) (day .sound && not (forceBy book q (day .number) of (codeText of code []))))
 
+-- field f of a line of kind k, with text t and this verdict on its code, has no pair to be wrong: the book lacks its code, or it is empty
+unfoldable pub unpairedBy : ℕ → ℕ → Rec → ℕ → Text → Bool
+unpairedBy a k l f t = eqb a 4 || (isEmpty t && not (isGiven k l f))
+
 -- rule 11 at field f of a line of kind k, the pair being of kind `pair` and the vaccine in the head
 abbrev pub pairBy : ℕ → Rec → ℕ → ℕ → Text → ℕ → Rec → Text → Sections → Day → ℕ
 pairBy k l f of t pair head book q day =

@@ -11,7 +11,7 @@ ghost use Rattle.lines.specs.Records.{recOf};
 ghost use Rattle.book.specs.Book.{codeText};
 ghost use Rattle.rules.specs.Forms.{isGiven};
 ghost use Rattle.later.specs.Look.{knownBy, forceBy};
-ghost use Rattle.later.specs.Fields.{codeLater, codeBy, pairBy};
+ghost use Rattle.later.specs.Fields.{codeLater, codeBy, unpairedBy, pairBy};
 
 // Whether the book has a code of a kind.
 fn is_known(book: &[u8], q: Sections, kind: u8, code: &[u8]) -> bool
@@ -91,12 +91,32 @@ fn is_known_at(
     }
 }
 
-// Rule 11 at field f of a line: the pair of its code with the vaccine of its II, where both are known. The pair is asked for first: most are in
-// force.
+// Whether field f of a line, with text t and the verdict a on its code, has no pair to ask for: the book lacks its code, or it is empty.
+fn is_unpaired(a: u8, kind: u8, line: &[u8], f: usize, t: &[u8]) -> bool
+    ensures { λ r. ⌜ r ≡ unpairedBy a kind (recOf (now (line .entry))) f (now (t .entry)) ⌝ }
+{
+    if a == 4 {
+        return true;
+    }
+    if t.len() == 0 {
+        if forms::is_given(kind, line, f) {
+            false
+        } else {
+            true
+        }
+    } else {
+        false
+    }
+}
+
+// Rule 11 at field f of a line, with text t and the verdict a on its code: the pair of its code with the vaccine of its II, where both are known.
+// The pair is asked for first: most are in force.
 pub(crate) fn pair_rule(
+    a: u8,
     kind: u8,
     line: &[u8],
     f: usize,
+    t: &[u8],
     of: u8,
     code: &[u8],
     pair: u8,
@@ -105,8 +125,12 @@ pub(crate) fn pair_rule(
     q: Sections,
     day: Day,
 ) -> u8
+    requires { ⌜ (a ≡ 4 → knownBy (now book) q of (codeText of (now code) []) ≡ false) ⌝ }
     ensures { λ r. ⌜ r ≡ pairBy kind (recOf (now (line .entry))) f of (now (code .entry)) pair (recOf (now (head .entry))) (now (book .entry)) q day ⌝ }
 {
+    if is_unpaired(a, kind, line, f, t) {
+        return 0;
+    }
     let vaccine = lines::field_of(head, 8);
     if pair_wrong(book, q, pair, vaccine, code, day) {
         if is_known_at(II, head, 8, 1, vaccine, book, q) {

@@ -80,7 +80,7 @@ pub fn reason_at(line: &[u8], relaxed: bool, t: &[u8], book: &[u8], q: Sections,
 {
     let read = texts::reason_read(t);
     let a = code_rule(II, relaxed, 11, t, 3, &read, book, q, day);
-    let b = pair_rule(II, line, 11, 3, &read, 7, line, book, q, day);
+    let b = pair_rule(a, II, line, 11, t, 3, &read, 7, line, book, q, day);
     Broken { a, b, c: 0 }
 }
 
@@ -122,7 +122,7 @@ pub fn antigen_at(
     ensures { λ r. ⌜ r ≡ antigenAt (now (line .entry)) (now (head .entry)) (now (since .entry)) (now (t .entry)) (now (book .entry)) q day ⌝ }
 {
     let a = code_rule(IE, false, 4, t, 2, t, book, q, day);
-    let b = pair_rule(IE, line, 4, 2, t, 8, head, book, q, day);
+    let b = pair_rule(a, IE, line, 4, t, 2, t, 8, head, book, q, day);
     let c = again_rule(t, since);
     Broken { a, b, c }
 }

@@ -99,14 +99,14 @@ pub(crate) fn again_rule(t: &[u8], since: &[u8]) -> u8
     0
 }
 
-// Rule 13 at II 8, of the IE lines of an II that is not its block's first, and of those of the first.
+// Rule 13 at II 8, of the IE lines of an II that is not its block's first, and of those of the first. The sets are asked for first: most are one.
 pub(crate) fn set_rule(joined: bool, own: &[u8], first: &[u8]) -> u8
     ensures { λ r. ⌜ r ≡ cond (joined && (countsSound (recs (now (own .entry))) && (countsSound (recs (now (first .entry))) && setsDiffer (recs (now (own .entry))) (recs (now (first .entry)))))) 13 0 ⌝ }
 {
     if joined {
-        if forms::counts_sound(own) {
-            if forms::counts_sound(first) {
-                if forms::sets_differ(own, first) {
+        if forms::sets_differ(own, first) {
+            if forms::counts_sound(own) {
+                if forms::counts_sound(first) {
                     return 13;
                 }
             }

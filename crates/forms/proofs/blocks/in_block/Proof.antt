@@ -1,5 +1,3 @@
--- `forms::blocks::in_block` meets its contract.
--- Assumes nothing.
 use Rattle.forms.proofs.BlockNeeds.{for-in-block}
 use Rattle.forms.proofs.blocks.in_block.Statement.{statement}
 use Rattle.forms.proofs.blocks.in_block.Tie as tie
@@ -8,7 +6,6 @@ pub in-block-spec : {M : Type 1} → statement M
 in-block-spec =
     tie.close
     (tie.spec
-    (λ c. search for-in-block)
     (λ c. search for-in-block)
     (λ c. search for-in-block)
     (λ c. search for-in-block)

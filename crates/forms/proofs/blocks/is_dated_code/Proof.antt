@@ -1,5 +1,3 @@
--- `forms::blocks::is_dated_code` meets its contract.
--- Assumes nothing.
 use Rattle.forms.proofs.BlockNeeds.{for-dated-code}
 use Rattle.forms.proofs.blocks.is_dated_code.Statement.{statement}
 use Rattle.forms.proofs.blocks.is_dated_code.Tie as tie
@@ -8,6 +6,7 @@ pub is-dated-code-spec : {M : Type 1} → statement M
 is-dated-code-spec =
     tie.close
     (tie.spec
+    (λ c. search for-dated-code)
     (λ c. search for-dated-code)
     (λ c. search for-dated-code)
     (λ c. search for-dated-code)

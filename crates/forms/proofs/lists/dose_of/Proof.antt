@@ -1,5 +1,3 @@
--- `forms::lists::dose_of` meets its contract.
--- Assumes nothing.
 use Rattle.forms.proofs.ListNeeds.{for-dose}
 use Rattle.forms.proofs.lists.dose_of.Statement.{statement}
 use Rattle.forms.proofs.lists.dose_of.Tie as tie
@@ -8,7 +6,6 @@ pub dose-of-spec : {M : Type 1} → statement M
 dose-of-spec =
     tie.close
     (tie.spec
-    (λ c. search for-dose)
     (λ c. search for-dose)
     (λ c. search for-dose)
     (λ c. search for-dose)

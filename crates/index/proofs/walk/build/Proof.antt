@@ -1,5 +1,3 @@
--- `index::walk::build` meets its contract.
--- Assumes nothing.
 use Rattle.index.proofs.WalkNeeds.{for-build}
 use Rattle.index.proofs.walk.build.Statement.{statement}
 use Rattle.index.proofs.walk.build.Tie as tie
@@ -8,6 +6,7 @@ pub build-spec : {M : Type 1} → statement M
 build-spec =
     tie.close
     (tie.spec
+    (λ c. search for-build)
     (λ c. search for-build)
     (λ c. search for-build)
     (λ c. search for-build)

@@ -1,7 +1,5 @@
--- `index::walk::gather` meets its contract.
--- Assumes nothing.
 use Rattle.index.proofs.WalkNeeds.{for-gather}
-use Prim.Native.Nat.{_-_, _≤_}
+use Prim.Native.Nat.{_-_}
 use lib.ListN.{length}
 use Rattle.index.proofs.WalkNeeds.{Gathering}
 use Rattle.index.proofs.walk.gather.Statement.{statement}
@@ -19,7 +17,6 @@ gather-spec =
     (tie.spec
     Inv-loop
     μ-loop
-    (λ c. search for-gather)
     (λ c. search for-gather)
     (λ c. search for-gather)
     (λ c. search for-gather)

@@ -1,5 +1,3 @@
--- `later::codes::pair_rule` meets its contract.
--- Assumes nothing.
 use Rattle.later.proofs.LookLaws.{for-pair-rule}
 use Rattle.later.proofs.codes.pair_rule.Statement.{statement}
 use Rattle.later.proofs.codes.pair_rule.Tie as tie
@@ -8,6 +6,8 @@ pub pair-rule-spec : {M : Type 1} → statement M
 pair-rule-spec =
     tie.close
     (tie.spec
+    (λ c. search for-pair-rule)
+    (λ c. search for-pair-rule)
     (λ c. search for-pair-rule)
     (λ c. search for-pair-rule)
     (λ c. search for-pair-rule)

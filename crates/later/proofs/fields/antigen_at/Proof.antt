@@ -1,5 +1,3 @@
--- `later::fields::antigen_at` meets its contract.
--- Assumes nothing.
 use Rattle.later.proofs.FieldNeeds.{for-parts}
 use Rattle.later.proofs.fields.antigen_at.Statement.{statement}
 use Rattle.later.proofs.fields.antigen_at.Tie as tie

@@ -1,5 +1,3 @@
--- `later::fields::reason_at` meets its contract.
--- Assumes nothing.
 use Rattle.later.proofs.FieldNeeds.{for-parts}
 use Rattle.later.proofs.fields.reason_at.Statement.{statement}
 use Rattle.later.proofs.fields.reason_at.Tie as tie

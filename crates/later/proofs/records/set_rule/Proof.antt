@@ -1,5 +1,3 @@
--- `later::records::set_rule` meets its contract.
--- Assumes nothing.
 use Rattle.later.proofs.RecordNeeds.{for-set}
 use Rattle.later.proofs.records.set_rule.Statement.{statement}
 use Rattle.later.proofs.records.set_rule.Tie as tie
