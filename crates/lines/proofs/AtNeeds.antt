@@ -1,22 +1,22 @@
--- What each need of `skip`, `field_end` and `field_at` asks: of the text of a line from a position in the file on.
+-- What each need of `start_at`, `field_end` and `field_at` asks: of the text of a line from a position in the file on.
 -- Assumes nothing.
 use mathlib.Core.Path.{_≡_, refl, sym, ap, _∙_}
 use mathlib.Core.Bool.{Bool, true, false, cond}
 use mathlib.Core.List.{List, [], _∷_}
-use Prim.Native.Nat.{ℕ, _+_, _-_, _≤_, _<_}
+use Prim.Native.Nat.{ℕ, suc, _+_, _-_, _≤_, _<_}
 use native.Mathlib.Nat.{add-zero, add-sub-cancel-left, min-le-right}
 use native.Mathlib.Omega.{arith}
 use borrow.Author.Needs.{needs}
 use borrow.Author.Tests.{eq-eqb, ne-eqb}
 use lib.Dec.{eqb}
 use lib.ListN.{length, getD, take, drop, length-take, length-drop}
-use lib.Seq.{drop-drop, take-take}
+use lib.Seq.{take-take}
 use Rattle.house.specs.Text.{Text}
 use Rattle.house.proofs.Suffix.{drop-here, drop-past}
 use Rattle.lines.specs.Lines.{pipe, endingOf, lineOf, textLen, lengthen, fieldsOf, fieldOf, fieldsLen}
-use Rattle.lines.proofs.LineLaws.{ending-plain, line-more, line-stop, line-nil, text-is, text-le, text-from}
-use Rattle.lines.proofs.FieldLaws.{fields-le, field-first}
-use Rattle.lines.proofs.FieldNeeds.{start-zero, start-cons, field-zero, field-pred}
+use Rattle.lines.proofs.LineLaws.{ending-plain, line-more, line-stop, line-nil, text-is, text-le}
+use Rattle.lines.proofs.FieldNeeds.{start-zero, start-cons, field-zero}
+use Rattle.lines.proofs.PositionLaws.{field-on}
 
 -- the text of a line from position i on
 abbrev rest : Text → ℕ → Text
@@ -39,7 +39,7 @@ module _ (s : Text) (i : ℕ) where
     rest-plain l =
         ap (λ (t : Text). lineOf t .text) (drop-here s i h) ∙ rw (line-more (getD s i 0) (drop (i + 1) s) (ending-plain (getD s i 0) (drop (i + 1) s) l))
 
--- skip: the start x, from a position i with f fields left
+-- start_at: the start x, from a position i with f fields left
 pub skip-none : (s : Text) (at f : ℕ) → f ≡ 0 → at ≡ at + fieldsLen f (lineOf (drop at s) .text)
 skip-none s at f e = rw (e, start-zero, add-zero)
 
@@ -75,7 +75,7 @@ module _ (s : Text) (i f x : ℕ) (o : 1 ≤ f) (inv : x ≡ i + fieldsLen f (li
       pub skip-plain : 14 ≤ getD s i 0 → x ≡ i + 1 + fieldsLen f (lineOf (drop (i + 1) s) .text)
       skip-plain l = over-text (rest-plain s i h l)
 
-pub ruleset for-skip = (needs, skip-none, skip-past, skip-stop, skip-last, skip-pipe, skip-low, skip-plain)
+pub ruleset for-start-at = (needs, skip-none, skip-past, skip-stop, skip-last, skip-pipe, skip-low, skip-plain)
 
 -- field_end: the end x of the field that starts at position a, from a position i; a where there is none among these fields
 abbrev pub endIn : ℕ → ℕ → List Text → ℕ
@@ -154,15 +154,10 @@ unfolding fieldOf
 first-le t = rw first-front (simp length-take (omega (arith, min-le-right (length (getD (fieldsOf t) 0 [])) (length t))))
 
 module _ (s : Text) (at f a e : ℕ) (n : f ≡ 0 → ⊥) (p : a ≡ at + fieldsLen (f - 1) (lineOf (drop at s) .text)) (q : e ≡ a + length (fieldOf (lineOf (drop a s) .text) 1)) where
-  is-rest : rest s a ≡ drop (fieldsLen (f - 1) (rest s at)) (rest s at)
-  unfolding textLen
-  is-rest =
-      ap (λ (n : ℕ). lineOf (drop n s) .text) p ∙ ap (λ (t : Text). lineOf t .text) (sym (drop-drop (fieldsLen (f - 1) (rest s at)) at s))
-      ∙ text-from (fieldsLen (f - 1) (rest s at)) (drop at s) (fields-le (f - 1) (rest s at))
-
   is-first : fieldOf (rest s a) 1 ≡ fieldOf (rest s at) f
-  unfolding fieldOf
-  is-first = rw is-rest (sym (field-pred (rest s at) f n ∙ field-first (f - 1) (rest s at)))
+  is-first =
+      let e : suc (f - 1 + 0) ≡ f = omega arith in
+      field-on s at (f - 1) a p 0 ∙ ap (fieldOf (rest s at)) e
 
   in-line : length (fieldOf (rest s a) 1) ≤ length s - a
   unfolding textLen

@@ -29,6 +29,9 @@ count-fields t r q = one
 field-start : (t : Text) (f r q : ℕ) → r ≡ fieldsLen f t → q ≡ fieldsLen f t → r ≡ q
 field-start t f r q = one
 
+start-at : (s : Text) (at f r q : ℕ) → r ≡ at + fieldsLen f (lineOf (drop at s) .text) → q ≡ at + fieldsLen f (lineOf (drop at s) .text) → r ≡ q
+start-at s at f r q = one
+
 field-from : (t : Text) (at : ℕ) (r q : Text) → r ≡ fieldOf (drop at t) 1 → q ≡ fieldOf (drop at t) 1 → r ≡ q
 field-from t at r q = one
 

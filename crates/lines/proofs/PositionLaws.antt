@@ -1,4 +1,4 @@
--- A field's text is the part of the file that starts at its position.
+-- A field's text is the part of the file that starts at its position, and a line's fields go on from there.
 -- Assumes nothing.
 use mathlib.Core.Path.{_≡_, refl, sym, ap, _∙_}
 use mathlib.Core.Bool.{Bool, true, false}
@@ -10,13 +10,13 @@ use native.Mathlib.Omega.{arith}
 use borrow.Author.Tests.{ltb-true, ltb-false}
 use lib.Dec.{ltb}
 use lib.ListN.{length, getD, take, drop, length-drop}
-use lib.Seq.{length-take-le, take-take, drop-drop}
+use lib.Seq.{length-take-le, take-take, drop-drop, getD-drop}
 use Rattle.house.specs.Text.{Text}
 use Rattle.house.proofs.Small.{clash}
 use Rattle.lines.specs.Lines.{lineOf, textLen, fieldsOf, fieldOf, textAt, fieldText, fieldThere, linesLen, fieldsLen, fieldPosition}
 use Rattle.lines.specs.Inside.{part, pipeLen}
-use Rattle.lines.proofs.LineLaws.{text-is, text-after}
-use Rattle.lines.proofs.FieldLaws.{fields-first, fields-none, fields-after, field-first}
+use Rattle.lines.proofs.LineLaws.{text-is, text-after, text-from}
+use Rattle.lines.proofs.FieldLaws.{fields-first, fields-none, fields-after, fields-le, field-first}
 use Rattle.lines.proofs.PartLaws.{part-drop}
 
 -- a text behind its first k fields
@@ -64,3 +64,15 @@ position-cut s (suc m) (suc k) h =
     let i : textAt s (suc m) ≡ lineOf (drop (linesLen m s) s) .text = text-after s (suc m) (λ z. omega arith) ∙ rw sub-one in
     rw (add-sub-cancel-left, position s m k h)
     (sym (cut-there s (textAt s (suc m)) (linesLen m s) (textLen (drop (linesLen m s) s)) k (i ∙ text-is (drop (linesLen m s) s)) (ap length i) (ltb-true _ _ h)))
+
+-- from where the field after k fields of a line starts, the line goes on with the fields that follow these
+module _ (s : Text) (at k a : ℕ) (p : a ≡ at + fieldsLen k (lineOf (drop at s) .text)) where
+  rest-on : lineOf (drop a s) .text ≡ behind k (lineOf (drop at s) .text)
+  unfolding textLen
+  rest-on =
+      ap (λ (n : ℕ). lineOf (drop n s) .text) p ∙ ap (λ (t : Text). lineOf t .text) (sym (drop-drop (fieldsLen k (lineOf (drop at s) .text)) at s))
+      ∙ text-from (fieldsLen k (lineOf (drop at s) .text)) (drop at s) (fields-le k (lineOf (drop at s) .text))
+
+  pub field-on : (f : ℕ) → fieldOf (lineOf (drop a s) .text) (suc f) ≡ fieldOf (lineOf (drop at s) .text) (suc (k + f))
+  unfolding fieldOf
+  field-on f = rw (rest-on, fields-after, getD-drop)

@@ -5,7 +5,7 @@ use mathlib.Core.Path.{_≡_}
 use mathlib.Core.Bool.{Bool, true, not, cond}
 use mathlib.Core.List.{List, [], _∷_}
 use lib.ListN.{length, take, drop}
-use lib.Dec.{eqb}
+use lib.Dec.{eqb, ltb}
 use Rattle.house.specs.Text.{Text, all}
 use Rattle.lines.specs.Lines.{Line, pipe, linesOf, fieldsOf}
 use Rattle.lines.specs.Records.{IF, recordOf, countOf}
@@ -23,6 +23,13 @@ whole s = all (λ (l : Line). l .ended) (linesOf s)
 unfoldable pub pipeLen : Text → ℕ
 pipeLen [] = 0
 pipeLen (b ∷ t) = cond (eqb b pipe) 0 (suc (pipeLen t))
+
+-- the lesser and the greater of two bytes
+unfoldable pub lesserOf : ℕ → ℕ → ℕ
+lesserOf a b = cond (ltb b a) b a
+
+unfoldable pub greaterOf : ℕ → ℕ → ℕ
+greaterOf a b = cond (ltb a b) b a
 
 -- the lowest of causes 4 to 6 at a record of kind k with n fields that follows one of kind p, 0 for none
 unfoldable pub kindCause : ℕ → ℕ → ℕ → ℕ

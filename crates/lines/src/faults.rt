@@ -8,24 +8,45 @@ use crate::kinds::may_follow;
 use crate::line::line_at;
 ghost use mathlib.Core.Path.{_≡_};
 ghost use Rattle.lines.specs.Shape.{printable, pipeLast, causeOf, shapeOf};
-ghost use Rattle.lines.specs.Inside.{kindCause};
+ghost use Rattle.lines.specs.Inside.{lesserOf, greaterOf, kindCause};
 
-// Whether each byte of a text lies in 32..126.
+// The lesser of two bytes.
+fn lesser(a: u8, b: u8) -> u8
+    ensures { λ r. ⌜ r ≡ lesserOf a b ⌝ }
+{
+    if b < a {
+        return b;
+    }
+    a
+}
+
+// The greater of two bytes.
+fn greater(a: u8, b: u8) -> u8
+    ensures { λ r. ⌜ r ≡ greaterOf a b ⌝ }
+{
+    if a < b {
+        return b;
+    }
+    a
+}
+
+// Whether each byte of a text lies in 32..126: by its least and its greatest byte, which are found many bytes at a time.
 fn is_printable(text: &[u8]) -> bool
     ensures { λ r. ⌜ r ≡ printable (now (text .entry)) ⌝ }
 {
+    let mut low: u8 = 32;
+    let mut high: u8 = 126;
     let mut i = 0;
     while i < text.len() {
         let b = text[i];
-        if b < 32 {
-            return false;
-        }
-        if 126 < b {
-            return false;
-        }
+        low = lesser(low, b);
+        high = greater(high, b);
         i += 1;
     }
-    true
+    if low < 32 {
+        return false;
+    }
+    high <= 126
 }
 
 // Whether a text ends in a pipe.

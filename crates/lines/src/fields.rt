@@ -82,7 +82,7 @@ pub fn field_from(text: &[u8], at: usize) -> &[u8]
 }
 
 // Where the field after f fields of the line that starts at a position starts, or the end of the line's text.
-fn skip(file: &[u8], at: usize, f: usize) -> usize
+pub fn start_at(file: &[u8], at: usize, f: usize) -> usize
     ensures { λ r. ⌜ r ≡ at + fieldsLen f (lineOf (drop at (now (file .entry))) .text) ⌝ }
 {
     if f == 0 {
@@ -139,7 +139,7 @@ pub fn field_at(file: &[u8], at: usize, f: usize) -> &[u8]
     if f == 0 {
         return &file[..0];
     }
-    let start = skip(file, at, f - 1);
+    let start = start_at(file, at, f - 1);
     let end = field_end(file, start);
     if start < end {
         return &file[start..end];

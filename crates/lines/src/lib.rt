@@ -13,6 +13,7 @@ pub use fields::field_of;
 pub use fields::field_position;
 pub use fields::field_start;
 pub use fields::has_field;
+pub use fields::start_at;
 pub use kinds::IA;
 pub use kinds::IE;
 pub use kinds::IF;

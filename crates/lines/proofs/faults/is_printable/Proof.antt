@@ -1,6 +1,6 @@
 -- `lines::faults::is_printable` meets its contract.
 -- Assumes nothing.
-use Rattle.lines.proofs.FaultNeeds.{for-is-printable}
+use Rattle.lines.proofs.FaultNeeds.{for-is-printable, printIn}
 use Prim.Native.Nat.{_-_}
 use mathlib.Core.Path.{_≡_}
 use lib.ListN.{length, drop}
@@ -9,10 +9,10 @@ use Rattle.lines.proofs.faults.is_printable.Statement.{statement}
 use Rattle.lines.proofs.faults.is_printable.Tie as tie
 
 abbrev Inv-loop : tie.InvT-loop
-Inv-loop text i₀ i = printable text ≡ printable (drop i text)
+Inv-loop text low₀ high₀ i₀ low high i = printable text ≡ printIn low high (drop i text)
 
 abbrev μ-loop : tie.MeasureT-loop
-μ-loop text i₀ i = length text - i
+μ-loop text low₀ high₀ i₀ low high i = length text - i
 
 pub is-printable-spec : {M : Type 1} → statement M
 is-printable-spec =
@@ -20,6 +20,7 @@ is-printable-spec =
     (tie.spec
     Inv-loop
     μ-loop
+    (λ c. search for-is-printable)
     (λ c. search for-is-printable)
     (λ c. search for-is-printable)
     (λ c. search for-is-printable)

@@ -1,0 +1,12 @@
+-- `lines::faults::lesser` meets its contract.
+-- Assumes nothing.
+use Rattle.lines.proofs.FaultNeeds.{for-lesser}
+use Rattle.lines.proofs.faults.lesser.Statement.{statement}
+use Rattle.lines.proofs.faults.lesser.Tie as tie
+
+pub lesser-spec : {M : Type 1} → statement M
+lesser-spec =
+    tie.close
+    (tie.spec
+    (λ c. search for-lesser)
+    (λ c. search for-lesser))
