@@ -2,8 +2,8 @@
 -- Assumes nothing.
 use mathlib.Core.Path.{_≡_, sym, _∙_}
 use Rattle.house.specs.Text.{Text}
-use Rattle.tuulveski.specs.declared.Answer.{Answer}
-use Rattle.tuulveski.specs.Answers.{left}
+use Rattle.answers.specs.declared.Answer.{Answer}
+use Rattle.answers.specs.Answers.{left}
 use Rattle.console.specs.Program.{answerOf}
 
 pub one-answer : (input book ledger area : Text) (a b : Answer) (l m s t : Text) → left a l s ≡ answerOf input book ledger area → left b m t ≡ answerOf input book ledger area

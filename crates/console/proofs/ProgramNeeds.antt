@@ -20,9 +20,9 @@ use Rattle.book.specs.declared.Sections.{Sections}
 use Rattle.book.specs.declared.Validity.{Validity}
 use Rattle.book.specs.declared.Validity.the-variants.{Valid, Malformed}
 use Rattle.book.specs.Book.{bookOk, validOf, sectionsOf}
-use Rattle.tuulveski.specs.declared.Answer.{Answer}
-use Rattle.tuulveski.specs.declared.Answer.the-variants.{Date as NoDay, Long, Book, Ledger}
-use Rattle.tuulveski.specs.Answers.{lent, left, check}
+use Rattle.answers.specs.declared.Answer.{Answer}
+use Rattle.answers.specs.declared.Answer.the-variants.{Date as NoDay, Long, Book, Ledger}
+use Rattle.answers.specs.Answers.{lent, left, check}
 use Rattle.console.specs.Program.{isDated, todayIn, overLong, answerOf}
 
 -- today_in

@@ -9,9 +9,9 @@ use lib.Dec.{eqb, ltb, leb}
 use Rattle.house.specs.Text.{Text, number}
 use Rattle.house.specs.Dates.{isDate, isDay}
 use Rattle.book.specs.Book.{bookOk}
-use Rattle.tuulveski.specs.declared.Answer.{Answer}
-use Rattle.tuulveski.specs.declared.Answer.the-variants.{Date, Long, Book, Ledger}
-use Rattle.tuulveski.specs.Answers.{Lent, Outcome, lent, refused, check}
+use Rattle.answers.specs.declared.Answer.{Answer}
+use Rattle.answers.specs.declared.Answer.the-variants.{Date, Long, Book, Ledger}
+use Rattle.answers.specs.Answers.{Lent, Outcome, lent, refused, check}
 
 abbrev pub submissionMost : ℕ
 submissionMost = 32000

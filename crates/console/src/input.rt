@@ -1,10 +1,10 @@
 // What the program answers of what it reads.
+use answers::Answer;
 use book::Validity;
 use house::Date;
 use house::Dated;
-use tuulveski::Answer;
 ghost use mathlib.Core.Path.{_≡_};
-ghost use Rattle.tuulveski.specs.Answers.{left};
+ghost use Rattle.answers.specs.Answers.{left};
 ghost use Rattle.console.specs.Program.{todayIn, overLong, answerOf};
 
 // Today, where the first line is a date: eight digits and LF; 0, which is no date, for any other first line.
@@ -56,5 +56,5 @@ pub fn answer(input: &[u8], book: &[u8], ledger: &mut [u8], area: &mut [u8]) -> 
     }
     let from = 9;
     let to = input.len();
-    tuulveski::check(today, &input[from..to], book, ledger, area)
+    answers::check(today, &input[from..to], book, ledger, area)
 }

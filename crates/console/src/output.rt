@@ -1,5 +1,5 @@
 // What the program prints: "answer, line, cause, findings, added, changed, deleted, IN; then line, field, rule for each finding kept".
-use tuulveski::Answer;
+use answers::Answer;
 
 fn blank() {
     io::write_all(1, b" ");

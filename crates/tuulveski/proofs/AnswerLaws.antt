@@ -20,9 +20,9 @@ use Rattle.book.specs.Book.{bookOk}
 use Rattle.ledger.specs.Ledger.{ledgerOk, slotsIn, liveIn}
 use Rattle.rules.specs.Findings.{Finding, findingsOf}
 use Rattle.rules.proofs.FindingLaws.{findings-listed, one-list}
-use Rattle.tuulveski.specs.declared.Answer.{Answer}
-use Rattle.tuulveski.specs.declared.Answer.the-variants.{Accepted, Date, Long, Book, Ledger, Shape as BadShape, Findings, Full}
-use Rattle.tuulveski.specs.Answers.{Lent, Outcome, fileMost, settingOf, findings, added, changed, deleted, notImmunized, isFull, refused, accepted, withFindings, roomed, judged, shaped, check}
+use Rattle.answers.specs.declared.Answer.{Answer}
+use Rattle.answers.specs.declared.Answer.the-variants.{Accepted, Date, Long, Book, Ledger, Shape as BadShape, Findings, Full}
+use Rattle.answers.specs.Answers.{Lent, Outcome, fileMost, settingOf, findings, added, changed, deleted, notImmunized, isFull, refused, accepted, withFindings, roomed, judged, shaped, check}
 use Rattle.tuulveski.specs.Demands.{Unbroken, ListsAll, Room, Lends, Shapely, Due}
 
 -- Findings and room, as facts

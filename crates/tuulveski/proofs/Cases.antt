@@ -12,7 +12,7 @@ use Rattle.ledger.specs.Ledger.{Event}
 use Rattle.rules.specs.Seen.{Setting}
 use Rattle.rules.specs.Blocks.{adds, changes, deletes}
 use Rattle.tuulveski.specs.Examples.{CasesHold, on, zeros, eventOn}
-use Rattle.tuulveski.specs.declared.Answer.the-variants.{Accepted, Shape}
+use Rattle.answers.specs.declared.Answer.the-variants.{Accepted, Shape}
 use Rattle.house.specs.Dates.{isLeap, daysIn, isDay, isDate, isEnd}
 use Rattle.house.specs.Key.{keyOf}
 use Rattle.house.specs.Text.{orderOf, below, same, isDigit, isLetter, isLetterOrDigit, isGraphic, run, digits, number, pad, graphicLen, isPadded}
@@ -29,7 +29,7 @@ use Rattle.rules.specs.Forms.{fieldIn, anything, isPrefix, isBatch, isTotal, co
 use Rattle.rules.specs.Places.{placesOf, placesIn, noRec, headKind, headOf, isNumbered}
 use Rattle.rules.specs.Rules.{rule1, rule2, rule3, rule4, rule5, rule6, rule7, afterToday, beforeBirth, rule8, without, siteWrong, methodWrong, rule9, lacks, rule10, rule11, sameAntigen, rule12, doseOf, sameCount, allIn, countsSound, setsDiffer, rule13, sameLot, rule14, rule15, asks, rule16, rule17, rule18, rules, rulesIn, rulesOf, brokenAt}
 use Rattle.rules.specs.Seen.{seenAt}
-use Rattle.tuulveski.specs.Answers.{settingOf, findings, added, changed, deleted, notImmunized, isFull, ledgerAfter, accepted, withFindings, roomed, judged, check, numbersOf, isAccepted, isFindings}
+use Rattle.answers.specs.Answers.{settingOf, findings, added, changed, deleted, notImmunized, isFull, ledgerAfter, accepted, withFindings, roomed, judged, check, numbersOf, isAccepted, isFindings}
 use Rattle.tuulveski.specs.Examples.{fileD, p1, p2, p3, p3-01, p4, p5, p6, p7, p8, p9, p10, p11, p12, cases}
 
 pub cases-hold : CasesHold

@@ -1,7 +1,7 @@
 -- The demands, of what the code answers and leaves: its contract says that this is the definition's.
 -- Assumes nothing.
 use mathlib.Core.Path.{_≡_, sym, subst, fun-ext}
-use Rattle.tuulveski.specs.Answers.{Lent, Outcome, check, Gives}
+use Rattle.answers.specs.Answers.{Lent, Outcome, check, Gives}
 use Rattle.tuulveski.specs.Runs.{Check}
 use Rattle.tuulveski.specs.Demands.{Demand1, Demand2, LedgerAfter, Demands, CodeMeets}
 use Rattle.tuulveski.proofs.FileLaws.{demand-1, demand-2, ledger-after}

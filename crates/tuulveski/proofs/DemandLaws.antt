@@ -19,9 +19,9 @@ use Rattle.ledger.proofs.HeldLaws.{one-ledger}
 use Rattle.rules.specs.Findings.{Finding, findingsOf}
 use Rattle.rules.specs.FileE.{bookE, fileE}
 use Rattle.rules.proofs.AreaLaws.{one-area}
-use Rattle.tuulveski.specs.declared.Answer.{Answer}
-use Rattle.tuulveski.specs.declared.Answer.the-variants.{Accepted, Shape}
-use Rattle.tuulveski.specs.Answers.{Lent, Outcome, settingOf, findings, added, changed, deleted, notImmunized, check, isAccepted, isFindings}
+use Rattle.answers.specs.declared.Answer.{Answer}
+use Rattle.answers.specs.declared.Answer.the-variants.{Accepted, Shape}
+use Rattle.answers.specs.Answers.{Lent, Outcome, settingOf, findings, added, changed, deleted, notImmunized, check, isAccepted, isFindings}
 use Rattle.tuulveski.specs.Runs.{Check, Call, lentTo, leaves, addedBy, deletedBy, ledgerAfterRun, allAdded, allDeleted, lastAdded}
 use Rattle.tuulveski.specs.Examples.{fileD, zeros, eventOn, lentE, on}
 use Rattle.tuulveski.specs.Demands.{Demand1, Demand2, Demand3, LedgerAfter, Demands, OneOutcome, Due, Lends, Shapely, Unbroken, Room, RefusesAll, Constant, NeverTouches, OnlyFirst, UselessShutOut}

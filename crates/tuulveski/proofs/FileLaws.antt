@@ -25,9 +25,9 @@ use Rattle.rules.specs.Findings.{Finding, areaAfter}
 use Rattle.rules.specs.Claims.{Clean, AreaHolds}
 use Rattle.rules.proofs.AreaLaws.{area-kept}
 use Rattle.rules.proofs.BlockLaws.{clean-file}
-use Rattle.tuulveski.specs.declared.Answer.{Answer}
-use Rattle.tuulveski.specs.declared.Answer.the-variants.{Accepted, Date, Long, Book, Ledger, Shape as BadShape, Findings, Full}
-use Rattle.tuulveski.specs.Answers.{Lent, Outcome, fileMost, settingOf, findings, added, changed, deleted, isFull, ledgerAfter, refused, accepted, withFindings, roomed, judged, shaped, check, numbersOf, isAccepted, isFindings}
+use Rattle.answers.specs.declared.Answer.{Answer}
+use Rattle.answers.specs.declared.Answer.the-variants.{Accepted, Date, Long, Book, Ledger, Shape as BadShape, Findings, Full}
+use Rattle.answers.specs.Answers.{Lent, Outcome, fileMost, settingOf, findings, added, changed, deleted, isFull, ledgerAfter, refused, accepted, withFindings, roomed, judged, shaped, check, numbersOf, isAccepted, isFindings}
 use Rattle.tuulveski.specs.Demands.{Demand1, Demand2, LedgerAfter, Unbroken, ListsAll, Room, Lends, Shapely, Due}
 use Rattle.tuulveski.proofs.AnswerLaws.{given-due, due-given, only-findings, unbroken-none}
 

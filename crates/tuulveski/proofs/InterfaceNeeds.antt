@@ -8,9 +8,9 @@ use lib.ListN.{length}
 use Rattle.house.specs.Text.{Text}
 use Rattle.lines.specs.Lines.{fieldText, fieldThere, fieldPosition}
 use Rattle.tuulveski.specs.declared.interface.Numbers.{Numbers}
-use Rattle.tuulveski.specs.declared.Answer.{Answer}
-use Rattle.tuulveski.specs.declared.Answer.the-variants.{Accepted, Date, Long, Book, Ledger, Shape as BadShape, Findings, Full}
-use Rattle.tuulveski.specs.Answers.{Lent, Outcome, left, check, numbersOf}
+use Rattle.answers.specs.declared.Answer.{Answer}
+use Rattle.answers.specs.declared.Answer.the-variants.{Accepted, Date, Long, Book, Ledger, Shape as BadShape, Findings, Full}
+use Rattle.answers.specs.Answers.{Lent, Outcome, left, check, numbersOf}
 use Rattle.tuulveski.specs.Interface.{numbers, numbersIn, fieldAt}
 use Rattle.tuulveski.specs.Inside.{Narrow}
 use Rattle.tuulveski.proofs.NumberLaws.{check-narrow}

@@ -6,8 +6,6 @@ pub mod DemandLaws
 pub mod CodeLaws
 pub mod NumberLaws
 -- What the functions' own needs ask
-mod StepNeeds
-mod SettleNeeds
 mod InterfaceNeeds
 -- No second answer
 mod OneAnswer

@@ -1,18 +1,12 @@
 -- No second answer meets the contract of a public function, nor a second ledger or findings area.
 -- Assumes nothing.
-use mathlib.Core.Path.{_≡_, sym, ap, _∙_}
+use mathlib.Core.Path.{_≡_, sym, _∙_}
 use Prim.Native.Nat.{ℕ}
 use Rattle.house.specs.Text.{Text}
-use Rattle.tuulveski.specs.declared.Answer.{Answer}
 use Rattle.tuulveski.specs.declared.interface.Numbers.{Numbers}
 use Rattle.tuulveski.specs.declared.interface.FieldAt.{FieldAt}
-use Rattle.tuulveski.specs.Answers.{Lent, Outcome, left, Gives}
+use Rattle.answers.specs.Answers.{Lent}
 use Rattle.tuulveski.specs.Interface.{numbers, numbersIn, GivesNumbers, fieldAt}
-
-check-one : (x : Lent) (a b : Answer) (l m r s : Text) → Gives x a l r → Gives x b m s → (a ≡ b) × (l ≡ m) × (r ≡ s)
-check-one x a b l m r s e f =
-    let g : left a l r ≡ left b m s = e ∙ sym f in
-    (ap (λ (o : Outcome). o .answer) g, ap (λ (o : Outcome). o .ledger) g, ap (λ (o : Outcome). o .area) g)
 
 -- the eight numbers are the whole of the struct
 same-numbers : (n m : Numbers) → numbersIn n ≡ numbersIn m → n ≡ m

@@ -14,7 +14,7 @@ use Rattle.house.proofs.Facts.{both, both-of, either, left-of, right-of, of-tru
 use Rattle.house.proofs.Members.{count-append}
 use Rattle.ledger.specs.Ledger.{Event, ledgerOk, liveIn, isAmong}
 use Rattle.ledger.proofs.EventLaws.{among-in, in-among, every, count-every}
-use Rattle.tuulveski.specs.Answers.{Lent, Outcome, check, added, deleted, ledgerAfter, isAccepted}
+use Rattle.answers.specs.Answers.{Lent, Outcome, check, added, deleted, ledgerAfter, isAccepted}
 use Rattle.tuulveski.specs.Runs.{Call, lentTo, leaves, addedBy, deletedBy, ledgerAfterRun, allAdded, allDeleted, lastAdded, isOf}
 use Rattle.tuulveski.specs.Demands.{Demand3}
 use Rattle.tuulveski.proofs.FileLaws.{accepts, accepted-ledger, refused-ledger, after-ok, after-counts, after-members}

@@ -18,9 +18,9 @@ use Rattle.book.specs.Book.{bookOk}
 use Rattle.ledger.specs.Ledger.{Event, slotsIn, ledgerOk, liveIn}
 use Rattle.rules.specs.Findings.{Finding}
 use Rattle.rules.specs.Claims.{Broken, Lists, AreaHolds}
-use Rattle.tuulveski.specs.declared.Answer.{Answer}
-use Rattle.tuulveski.specs.declared.Answer.the-variants.{Accepted, Date, Long, Book, Ledger, Shape as BadShape, Findings, Full}
-use Rattle.tuulveski.specs.Answers.{Lent, Outcome, left, fileMost, settingOf, added, changed, deleted, notImmunized, Gives, numbersOf, isAccepted, isFindings}
+use Rattle.answers.specs.declared.Answer.{Answer}
+use Rattle.answers.specs.declared.Answer.the-variants.{Accepted, Date, Long, Book, Ledger, Shape as BadShape, Findings, Full}
+use Rattle.answers.specs.Answers.{Lent, Outcome, left, fileMost, settingOf, added, changed, deleted, notImmunized, Gives, numbersOf, isAccepted, isFindings}
 use Rattle.tuulveski.specs.Runs.{Check, Call, ledgerAfterRun, allAdded, allDeleted, lastAdded, isOf}
 
 -- DEMAND 1: "the check ends with one of the numbered answers .. A refused file leaves the ledger byte for byte as lent; the findings area

@@ -13,7 +13,7 @@ use Rattle.lines.specs.Records.{II, recOf}
 use Rattle.rules.specs.Forms.{formOf}
 use Rattle.rules.specs.Codes.{codeRead}
 use Rattle.rules.specs.FileE.{fileOf, bookE, fileWith, four, six, seven, fileE}
-use Rattle.tuulveski.specs.Answers.{Lent, Outcome, check, numbersOf}
+use Rattle.answers.specs.Answers.{Lent, Outcome, check, numbersOf}
 
 -- the file that deletes what File E adds
 unfoldable pub fileD : Text

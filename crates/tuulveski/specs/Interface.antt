@@ -8,7 +8,7 @@ use Rattle.house.specs.Text.{Text}
 use Rattle.lines.specs.Lines.{fieldText, fieldThere, fieldPosition}
 use Rattle.tuulveski.specs.declared.interface.Numbers.{Numbers}
 use Rattle.tuulveski.specs.declared.interface.FieldAt.{FieldAt}
-use Rattle.tuulveski.specs.Answers.{Lent, check, numbersOf}
+use Rattle.answers.specs.Answers.{Lent, check, numbersOf}
 
 abbrev pub numbers : ℕ → ℕ → ℕ → ℕ → ℕ → ℕ → ℕ → ℕ → Numbers
 numbers answer line cause found added changed deleted declined =

@@ -6,7 +6,7 @@ use mathlib.Core.List.{List, [], _∷_, _++_}
 use lib.ListN.{take}
 use Rattle.house.specs.Text.{Text, same}
 use Rattle.ledger.specs.Ledger.{Event, isAmong}
-use Rattle.tuulveski.specs.Answers.{Lent, Outcome, isAccepted, added, deleted}
+use Rattle.answers.specs.Answers.{Lent, Outcome, isAccepted, added, deleted}
 
 -- anything that answers as the check does
 abbrev pub Check : Type 0

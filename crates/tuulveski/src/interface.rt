@@ -1,9 +1,8 @@
 // The C interface: include/tuulveski.h declares it.
-use crate::Answer;
-use crate::steps::check;
+use answers::Answer;
 ghost use mathlib.Core.Path.{_≡_};
 ghost use Prim.Native.Nat.{_<_};
-ghost use Rattle.tuulveski.specs.Answers.{lent, numbersOf};
+ghost use Rattle.answers.specs.Answers.{lent, numbersOf};
 ghost use Rattle.tuulveski.specs.Interface.{numbers, numbersIn, GivesNumbers, fieldAt};
 ghost use Rattle.tuulveski.specs.Inside.{Narrow};
 
@@ -112,7 +111,7 @@ pub extern "C" fn tuulveski_check(
 ) -> Numbers
     ensures { λ r. ⌜ GivesNumbers (lent today (now (file .entry)) (now (book .entry)) (now (ledger .entry)) (now (findings .entry))) r (now (ledger .exit)) (now (findings .exit)) ⌝ }
 {
-    let a = check(today, file, book, ledger, findings);
+    let a = answers::check(today, file, book, ledger, findings);
     numbers_of(a)
 }
 

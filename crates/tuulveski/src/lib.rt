@@ -1,28 +1,5 @@
-// The check of a submission: one call over file, code book, ledger, findings area and today's date.
+// The check of a submission as C calls it.
 mod interface;
-mod settling;
-mod steps;
 
 pub use interface::tuulveski_check;
 pub use interface::tuulveski_field;
-pub use steps::check;
-
-// The answers, by document 01's names; `numbersOf` in specs/ gives the paper's numbers of each.
-pub enum Answer {
-    Accepted {
-        added: usize,
-        changed: usize,
-        deleted: usize,
-        not_immunized: usize,
-    },
-    Date,
-    Long,
-    Book,
-    Ledger,
-    Shape {
-        line: usize,
-        cause: u8,
-    },
-    Findings(usize),
-    Full,
-}

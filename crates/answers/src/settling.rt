@@ -5,8 +5,8 @@ ghost use mathlib.Core.List.{[]};
 ghost use Prim.Native.Nat.{_≤_};
 ghost use lib.ListN.{length, take};
 ghost use Rattle.index.specs.Firsts.{indexOf, partOf};
-ghost use Rattle.tuulveski.specs.Answers.{lent, left, ledgerAfter, roomed};
-ghost use Rattle.tuulveski.specs.Inside.{countsOf, Settles, Settling, HasRoom};
+ghost use Rattle.answers.specs.Answers.{lent, left, ledgerAfter, roomed};
+ghost use Rattle.answers.specs.Inside.{countsOf, Settles, Settling, HasRoom};
 
 // How many blocks add, change and delete.
 struct Counts {

@@ -1,8 +1,8 @@
--- `tuulveski::steps::judge_all` meets its contract.
+-- `answers::steps::judge_all` meets its contract.
 -- Assumes nothing.
-use Rattle.tuulveski.proofs.StepNeeds.{for-judge-all}
-use Rattle.tuulveski.proofs.steps.judge_all.Statement.{statement}
-use Rattle.tuulveski.proofs.steps.judge_all.Tie as tie
+use Rattle.answers.proofs.StepNeeds.{for-judge-all}
+use Rattle.answers.proofs.steps.judge_all.Statement.{statement}
+use Rattle.answers.proofs.steps.judge_all.Tie as tie
 
 pub judge-all-spec : {M : Type 1} → statement M
 judge-all-spec =

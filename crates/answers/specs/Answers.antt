@@ -18,8 +18,8 @@ use Rattle.rules.specs.Places.{placesIn}
 use Rattle.rules.specs.Blocks.{eventsOf, adds, changes, deletes}
 use Rattle.rules.specs.Seen.{Setting}
 use Rattle.rules.specs.Findings.{Finding, findingsOf, areaAfter}
-use Rattle.tuulveski.specs.declared.Answer.{Answer}
-use Rattle.tuulveski.specs.declared.Answer.the-variants.{Accepted, Date, Long, Book, Ledger, Shape as BadShape, Findings, Full}
+use Rattle.answers.specs.declared.Answer.{Answer}
+use Rattle.answers.specs.declared.Answer.the-variants.{Accepted, Date, Long, Book, Ledger, Shape as BadShape, Findings, Full}
 
 -- What is lent
 pub record Lent : Type 0 where

@@ -1,8 +1,8 @@
--- `tuulveski::steps::after_ledger` meets its contract.
+-- `answers::steps::after_ledger` meets its contract.
 -- Assumes nothing.
-use Rattle.tuulveski.proofs.StepNeeds.{for-after-ledger}
-use Rattle.tuulveski.proofs.steps.after_ledger.Statement.{statement}
-use Rattle.tuulveski.proofs.steps.after_ledger.Tie as tie
+use Rattle.answers.proofs.StepNeeds.{for-after-ledger}
+use Rattle.answers.proofs.steps.after_ledger.Statement.{statement}
+use Rattle.answers.proofs.steps.after_ledger.Tie as tie
 
 pub after-ledger-spec : {M : Type 1} → statement M
 after-ledger-spec =

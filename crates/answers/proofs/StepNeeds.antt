@@ -34,11 +34,11 @@ use Rattle.judge.specs.declared.Judged.{Judged}
 use Rattle.judge.specs.declared.Judged.the-variants.{Done, TooMany}
 use Rattle.judge.specs.Judged.{findingsBy, judgedOf, judgedArea}
 use Rattle.judge.proofs.SettingLaws.{setting-is}
-use Rattle.tuulveski.specs.declared.steps.Tally.{Tally}
-use Rattle.tuulveski.specs.declared.Answer.{Answer}
-use Rattle.tuulveski.specs.declared.Answer.the-variants.{Date, Long, Book, Ledger, Shape as BadShape, Findings, Full}
-use Rattle.tuulveski.specs.Answers.{Lent, Outcome, lent, left, settingOf, findings, added, changed, deleted, notImmunized, isFull, ledgerAfter, refused, accepted, withFindings, roomed, judged, check}
-use Rattle.tuulveski.specs.Inside.{afterBook, afterLedger, tally, tallyOf, Ready, Settles, Settling, Judges}
+use Rattle.answers.specs.declared.steps.Tally.{Tally}
+use Rattle.answers.specs.declared.Answer.{Answer}
+use Rattle.answers.specs.declared.Answer.the-variants.{Date, Long, Book, Ledger, Shape as BadShape, Findings, Full}
+use Rattle.answers.specs.Answers.{Lent, Outcome, lent, left, settingOf, findings, added, changed, deleted, notImmunized, isFull, ledgerAfter, refused, accepted, withFindings, roomed, judged, check}
+use Rattle.answers.specs.Inside.{afterBook, afterLedger, tally, tallyOf, Ready, Settles, Settling, Judges}
 
 -- check
 module _ (today : ℕ) (file book ledger area : Text) (d : Bool) (ed : d ≡ isDay today) where

@@ -1,8 +1,8 @@
--- `tuulveski::steps::check` meets its contract.
+-- `answers::steps::check` meets its contract.
 -- Assumes nothing.
-use Rattle.tuulveski.proofs.StepNeeds.{for-check}
-use Rattle.tuulveski.proofs.steps.check.Statement.{statement}
-use Rattle.tuulveski.proofs.steps.check.Tie as tie
+use Rattle.answers.proofs.StepNeeds.{for-check}
+use Rattle.answers.proofs.steps.check.Statement.{statement}
+use Rattle.answers.proofs.steps.check.Tie as tie
 
 pub check-spec : {M : Type 1} → statement M
 check-spec =

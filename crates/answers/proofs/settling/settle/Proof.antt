@@ -1,8 +1,8 @@
--- `tuulveski::settling::settle` meets its contract.
+-- `answers::settling::settle` meets its contract.
 -- Assumes nothing.
-use Rattle.tuulveski.proofs.SettleNeeds.{for-settle}
-use Rattle.tuulveski.proofs.settling.settle.Statement.{statement}
-use Rattle.tuulveski.proofs.settling.settle.Tie as tie
+use Rattle.answers.proofs.SettleNeeds.{for-settle}
+use Rattle.answers.proofs.settling.settle.Statement.{statement}
+use Rattle.answers.proofs.settling.settle.Tie as tie
 
 pub settle-spec : {M : Type 1} → statement M
 settle-spec =

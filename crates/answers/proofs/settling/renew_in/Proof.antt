@@ -1,8 +1,8 @@
--- `tuulveski::settling::renew_in` meets its contract.
+-- `answers::settling::renew_in` meets its contract.
 -- Assumes nothing.
-use Rattle.tuulveski.proofs.SettleNeeds.{for-renew-in}
-use Rattle.tuulveski.proofs.settling.renew_in.Statement.{statement}
-use Rattle.tuulveski.proofs.settling.renew_in.Tie as tie
+use Rattle.answers.proofs.SettleNeeds.{for-renew-in}
+use Rattle.answers.proofs.settling.renew_in.Statement.{statement}
+use Rattle.answers.proofs.settling.renew_in.Tie as tie
 
 pub renew-in-spec : {M : Type 1} → statement M
 renew-in-spec =

@@ -28,10 +28,10 @@ use Rattle.rules.specs.Blocks.{eventsOf, adds, changes, deletes}
 use Rattle.index.specs.Firsts.{indexOf, over, partOf}
 use Rattle.index.proofs.OverLaws.{over-taken, length-over, part-few}
 use Rattle.index.proofs.TypeLaws.{part-count, part-among, part-ascends, part-after}
-use Rattle.tuulveski.specs.declared.settling.Counts.{Counts}
-use Rattle.tuulveski.specs.declared.Answer.the-variants.{Accepted, Full}
-use Rattle.tuulveski.specs.Answers.{lent, left, added, changed, deleted, notImmunized, isFull, ledgerAfter, accepted, roomed}
-use Rattle.tuulveski.specs.Inside.{counts, countsOf, Settles, HasRoom}
+use Rattle.answers.specs.declared.settling.Counts.{Counts}
+use Rattle.answers.specs.declared.Answer.the-variants.{Accepted, Full}
+use Rattle.answers.specs.Answers.{lent, left, added, changed, deleted, notImmunized, isFull, ledgerAfter, accepted, roomed}
+use Rattle.answers.specs.Inside.{counts, countsOf, Settles, HasRoom}
 
 count-all : (p : Event → Bool) (es : List Event) → ((e : Event) → In e es → p e ≡ true) → count p es ≡ length es
 count-all p [] h = refl

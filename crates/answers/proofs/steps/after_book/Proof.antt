@@ -1,8 +1,8 @@
--- `tuulveski::steps::after_book` meets its contract.
+-- `answers::steps::after_book` meets its contract.
 -- Assumes nothing.
-use Rattle.tuulveski.proofs.StepNeeds.{for-after-book}
-use Rattle.tuulveski.proofs.steps.after_book.Statement.{statement}
-use Rattle.tuulveski.proofs.steps.after_book.Tie as tie
+use Rattle.answers.proofs.StepNeeds.{for-after-book}
+use Rattle.answers.proofs.steps.after_book.Statement.{statement}
+use Rattle.answers.proofs.steps.after_book.Tie as tie
 
 pub after-book-spec : {M : Type 1} → statement M
 after-book-spec =

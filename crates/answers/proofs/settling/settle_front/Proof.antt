@@ -1,8 +1,8 @@
--- `tuulveski::settling::settle_front` meets its contract.
+-- `answers::settling::settle_front` meets its contract.
 -- Assumes nothing.
-use Rattle.tuulveski.proofs.SettleNeeds.{for-settle-front}
-use Rattle.tuulveski.proofs.settling.settle_front.Statement.{statement}
-use Rattle.tuulveski.proofs.settling.settle_front.Tie as tie
+use Rattle.answers.proofs.SettleNeeds.{for-settle-front}
+use Rattle.answers.proofs.settling.settle_front.Statement.{statement}
+use Rattle.answers.proofs.settling.settle_front.Tie as tie
 
 pub settle-front-spec : {M : Type 1} → statement M
 settle-front-spec =

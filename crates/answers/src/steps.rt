@@ -12,8 +12,8 @@ ghost use Rattle.lines.specs.declared.Shape.the-variants.{Right};
 ghost use Rattle.lines.specs.Shape.{shapeOf};
 ghost use Rattle.book.specs.Book.{Sound};
 ghost use Rattle.rules.specs.Findings.{areaAfter};
-ghost use Rattle.tuulveski.specs.Answers.{lent, left, findings, judged, Gives};
-ghost use Rattle.tuulveski.specs.Inside.{afterBook, afterLedger, tallyOf, Ready, Judges};
+ghost use Rattle.answers.specs.Answers.{lent, left, findings, judged, Gives};
+ghost use Rattle.answers.specs.Inside.{afterBook, afterLedger, tallyOf, Ready, Judges};
 
 // How many blocks, findings and IN records there are.
 struct Tally {

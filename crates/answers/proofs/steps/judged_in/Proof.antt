@@ -1,8 +1,8 @@
--- `tuulveski::steps::judged_in` meets its contract.
+-- `answers::steps::judged_in` meets its contract.
 -- Assumes nothing.
-use Rattle.tuulveski.proofs.StepNeeds.{for-judged-in}
-use Rattle.tuulveski.proofs.steps.judged_in.Statement.{statement}
-use Rattle.tuulveski.proofs.steps.judged_in.Tie as tie
+use Rattle.answers.proofs.StepNeeds.{for-judged-in}
+use Rattle.answers.proofs.steps.judged_in.Statement.{statement}
+use Rattle.answers.proofs.steps.judged_in.Tie as tie
 
 pub judged-in-spec : {M : Type 1} → statement M
 judged-in-spec =

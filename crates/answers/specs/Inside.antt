@@ -1,0 +1,79 @@
+-- Working definitions: the answer from one of its steps on, and what is known there. No public contract rests on this page.
+-- Assumes nothing.
+use Prim.Native.Nat.{ℕ, _+_, _≤_}
+use mathlib.Core.Path.{_≡_}
+use mathlib.Core.Bool.{true, not, cond}
+use mathlib.Core.List.{List}
+use lib.ListN.{length, take}
+use Rattle.house.specs.Text.{Text, count}
+use Rattle.house.specs.Members.{In, Distinct}
+use Rattle.lines.specs.Records.{IN, isKind, recs}
+use Rattle.lines.specs.Shape.{shapeOf}
+use Rattle.book.specs.declared.Sections.{Sections}
+use Rattle.book.specs.Book.{Sound}
+use Rattle.ledger.specs.Ledger.{Event, slotsIn, ledgerOk, liveIn}
+use Rattle.rules.specs.Places.{placesIn}
+use Rattle.rules.specs.Blocks.{eventsOf, adds, changes, deletes}
+use Rattle.index.specs.Firsts.{firstsOf, indexOf}
+use Rattle.answers.specs.declared.steps.Tally.{Tally}
+use Rattle.answers.specs.declared.settling.Counts.{Counts}
+use Rattle.answers.specs.declared.Answer.the-variants.{Ledger}
+use Rattle.answers.specs.Answers.{Lent, Outcome, fileMost, findings, notImmunized, refused, shaped}
+
+-- with a well-formed ledger
+unfoldable pub afterLedger : Lent → Outcome
+afterLedger x = shaped x (shapeOf (x .file))
+
+-- with a well-formed book
+unfoldable pub afterBook : Lent → Outcome
+afterBook x = cond (not (ledgerOk (x .ledger))) (refused x Ledger) (afterLedger x)
+
+-- the book has these sections, and the ledger so many live events
+pub record Ready (x : Lent) (q : Sections) (live : ℕ) : Type 0 where
+  pub book : Sound (x .book) q
+  pub short : length (x .file) ≤ fileMost
+  pub ledger : ledgerOk (x .ledger) ≡ true
+  pub live-is : live ≡ length (liveIn (x .ledger))
+
+abbrev pub tally : ℕ → ℕ → ℕ → Tally
+tally blocks found declined = record { blocks = blocks; findings = found; declined = declined }
+
+-- how many blocks, findings and IN records there are
+unfoldable pub tallyOf : Lent → Tally
+tallyOf x = tally (length (firstsOf (x .file))) (length (findings x)) (notImmunized x)
+
+abbrev pub counts : ℕ → ℕ → ℕ → Counts
+counts a c d = record { added = a; changed = c; deleted = d }
+
+-- how many blocks of the file add, change and delete
+unfoldable pub countsOf : Text → Counts
+countsOf file =
+    record {
+      added = length (eventsOf adds (placesIn file));
+      changed = length (eventsOf changes (placesIn file));
+      deleted = length (eventsOf deletes (placesIn file));
+    }
+
+-- the ledger is well formed, and the blocks of the file name events once, those that it deletes being live
+pub record Settles (file ledger : Text) : Type 0 where
+  pub ok : ledgerOk ledger ≡ true
+  pub adds-once : Distinct (eventsOf adds (placesIn file))
+  pub deletes-once : Distinct (eventsOf deletes (placesIn file))
+  pub were-live : (e : Event) → In e (eventsOf deletes (placesIn file)) → In e (liveIn ledger)
+
+-- that, with so many live events, the index of the blocks, and so many IN records
+pub record Settling (file ledger : Text) (live : ℕ) (index : List ℕ) (declined : ℕ) : Type 0 where
+  pub settles : Settles file ledger
+  pub live-is : live ≡ length (liveIn ledger)
+  pub index-is : index ≡ indexOf file
+  pub few : length index ≤ 96154
+  pub declined-is : declined ≡ count (isKind IN) (recs file)
+
+-- judging leaves the index of the blocks at the front of a room, and where there are no findings the file can be settled
+pub record Judges (file ledger : Text) (live : ℕ) (t : Tally) (room : List ℕ) : Type 0 where
+  pub part : t .blocks ≤ length room
+  pub settling : t .findings ≡ 0 → Settling file ledger live (take (t .blocks) room) (t .declined)
+
+-- what is live and added has room in the slots and those of the deleted
+pub record HasRoom (file ledger : Text) : Type 0 where
+  pub fits : length (liveIn ledger) + length (eventsOf adds (placesIn file)) ≤ slotsIn ledger + length (eventsOf deletes (placesIn file))

@@ -1,0 +1,25 @@
+// The check of a submission, in the order of its answers: one call over file, code book, ledger, findings area and today's date.
+mod settling;
+mod steps;
+
+pub use steps::check;
+
+// The answers, by document 01's names; `numbersOf` in specs/ gives the paper's numbers of each.
+pub enum Answer {
+    Accepted {
+        added: usize,
+        changed: usize,
+        deleted: usize,
+        not_immunized: usize,
+    },
+    Date,
+    Long,
+    Book,
+    Ledger,
+    Shape {
+        line: usize,
+        cause: u8,
+    },
+    Findings(usize),
+    Full,
+}
