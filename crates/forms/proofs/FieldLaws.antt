@@ -1,18 +1,20 @@
 -- A line read as a record, field by field.
 -- Assumes nothing.
-use mathlib.Core.Path.{_≡_, refl}
-use mathlib.Core.Bool.{Bool, true, false, not, cond, _&&_, _||_, and-false}
-use mathlib.Core.List.{List, [], _∷_}
-use Prim.Native.Nat.{ℕ}
+use mathlib.Core.Path.{_≡_, refl, ap, _∙_}
+use mathlib.Core.Bool.{Bool, true, false, not, cond, _&&_, and-false}
+use mathlib.Core.List.{[], _∷_}
+use Prim.Native.Nat.{ℕ, suc, _+_, _-_}
 use native.Mathlib.Omega.{arith}
 use lib.Dec.{eqb}
-use lib.ListN.{length}
-use Rattle.house.specs.Text.{Text, any, those, within, isEmpty}
-use Rattle.lines.specs.Lines.{fieldsOf, fieldOf}
+use lib.ListN.{length, getD, drop}
+use Rattle.house.specs.Text.{Text, within, isEmpty}
+use Rattle.lines.specs.Lines.{fieldsOf, fieldOf, fieldsLen}
 use Rattle.lines.specs.Records.{Rec, II, recordOf, recOf, isKind}
+use Rattle.lines.proofs.FieldLaws.{fields-after}
 use Rattle.rules.specs.Forms.{fieldIn, text, isJudged, isRelaxed, relaxedBy, isOptional, isMissing, isMisformed, isSound, isGiven}
-use Rattle.rules.specs.Rules.{lacks, sameAntigen, sameLot}
-use Rattle.forms.specs.Leaves.{lowest, optionalIn, lowestIn, soundAs, antigenIs, lotIs, lotLater}
+use Rattle.rules.specs.Rules.{lacks}
+use Rattle.forms.specs.Leaves.{lowest, optionalIn, lowestIn, soundAs}
+use lib.Seq.{getD-drop}
 
 pub text-is : (t : Text) (f : ℕ) → text (recOf t) f ≡ fieldOf t f
 unfolding recOf fieldIn fieldOf
@@ -67,29 +69,12 @@ sound-as k l f = rw (lowest-in k l f 0) (go (isMissing k l f) (isMisformed k l f
     go false true = refl
     go false false = refl
 
--- Rules 10, 12 and 14 by a field's text
+-- Rule 10 by a field's text
 pub lacks-of : (line t : Text) (f other : ℕ) → t ≡ fieldOf line f → isEmpty t && isGiven 4 (recOf line) other ≡ lacks (recOf line) f other
 unfolding lacks
 lacks-of line t f other d = rw (text-is line f, ← d)
 
-pub antigens-are : (l : Rec) (t : Text) (ps : List Rec) → t ≡ text l 4 → any (antigenIs t) ps ≡ any (sameAntigen l) ps
-unfolding antigenIs sameAntigen
-antigens-are l t ps d = rw d
-
-lots-of : (l : Rec) (ps : List Rec) → any (lotIs (text l 15)) ps ≡ any (sameLot l) (those (isKind II) ps)
-unfolding lotIs sameLot
-lots-of l [] = refl
-lots-of l (p ∷ ps) = go (isKind II p) (lots-of l ps)
-  where
-    go : (b : Bool) → any (lotIs (text l 15)) ps ≡ any (sameLot l) (those (isKind II) ps)
-        → (b && sameLot l p) || any (lotIs (text l 15)) ps ≡ any (sameLot l) (cond b (p ∷ those (isKind II) ps) (those (isKind II) ps))
-    go true r = rw r
-    go false r = r
-
-module _ (l : Rec) (t : Text) (ps : List Rec) (d : t ≡ text l 15) where
-  pub lots-are : any (lotIs t) ps ≡ any (sameLot l) (those (isKind II) ps)
-  lots-are = rw d (lots-of l ps)
-
-  pub lot-later : lotLater t ps ≡ cond (any (sameLot l) (those (isKind II) ps)) 14 0
-  unfolding lotLater
-  lot-later = rw lots-are
+-- the fields behind the first f
+pub field-behind : (t u : Text) (f j : ℕ) → u ≡ drop (fieldsLen f t) t → fieldOf u (suc j) ≡ fieldOf t (suc (f + j))
+unfolding fieldOf
+field-behind t u f j e = ap (λ (s : Text). getD (fieldsOf s) j []) e ∙ rw (fields-after f t) (getD-drop f (fieldsOf t) j [])

@@ -1,6 +1,6 @@
 -- What each need of the functions on a line's fields asks.
 -- Assumes nothing.
-use mathlib.Core.Path.{_≡_, refl, sym, ap, _∙_}
+use mathlib.Core.Path.{_≡_, refl, sym, _∙_}
 use mathlib.Core.Bool.{Bool, true, false, not, cond, _&&_, _||_, and-false}
 use mathlib.Core.List.{List, [], _∷_}
 use Prim.Native.Nat.{ℕ, zero, suc, _+_, _-_, _≤_, _<_}
@@ -8,17 +8,17 @@ use native.Mathlib.Omega.{arith}
 use borrow.Author.Needs.{needs}
 use borrow.Author.Tests.{eq-eqb, ne-eqb, le-leb}
 use lib.Dec.{eqb}
-use lib.ListN.{length, getD, take, drop, length-drop}
-use lib.Seq.{getD-drop, take-all}
+use lib.ListN.{length, take, drop, length-drop}
+use lib.Seq.{take-all}
 use Rattle.house.specs.Text.{Text, any, within, isEmpty, same}
 use Rattle.house.proofs.Small.{Three, lt, eq, gt, three}
 use Rattle.lines.specs.Lines.{fieldsOf, fieldOf, fieldsLen}
 use Rattle.lines.specs.Records.{Rec, recOf}
-use Rattle.lines.proofs.FieldLaws.{fields-after, fields-le}
+use Rattle.lines.proofs.FieldLaws.{fields-le}
 use Rattle.rules.specs.Forms.{anything, table, formOf, isJudged, isRelaxed, relaxedBy, isSound, isGiven}
 use Rattle.texts.proofs.TextLaws.{within-yes, within-low, within-high}
 use Rattle.forms.specs.Leaves.{refusedBy, optionalIn, lowestIn, soundAs}
-use Rattle.forms.proofs.FieldLaws.{text-is, field-is, relaxed-is, empty-true, empty-false, lowest-either, lowest-filled, sound-as}
+use Rattle.forms.proofs.FieldLaws.{text-is, field-is, relaxed-is, empty-true, empty-false, lowest-either, lowest-filled, sound-as, field-behind}
 use Rattle.forms.proofs.SoundLaws.{given-by}
 
 pub same-either : (b : Bool) → true ≡ cond b true true
@@ -130,10 +130,6 @@ module _ (t : Text) (f s : ℕ) (e : s ≡ fieldsLen f t) where
   behind-is = rw (← e) (take-all (length t - s) (drop s t) (omega (arith, length-drop s t)))
 
 pub ruleset for-behind = (needs, behind-in, behind-is)
-
-pub field-behind : (t u : Text) (f j : ℕ) → u ≡ drop (fieldsLen f t) t → fieldOf u (suc j) ≡ fieldOf t (suc (f + j))
-unfolding fieldOf
-field-behind t u f j e = ap (λ (s : Text). getD (fieldsOf s) j []) e ∙ rw (fields-after f t) (getD-drop f (fieldsOf t) j [])
 
 -- is_refused, relaxed
 module _ (r t : Text) (d : t ≡ fieldOf r 1) where

@@ -5,8 +5,5 @@ pub mod FieldLaws
 pub mod SoundLaws
 -- What the functions' own needs ask
 mod FieldNeeds
-mod ListNeeds
-mod VerdictNeeds
-mod BlockNeeds
 -- No second answer
 mod OneAnswer

@@ -1,15 +1,11 @@
--- What the functions on lines answer where the rules' own definitions have no name for it.
+-- What the functions on a line's fields answer where the rules' own definitions have no name for it.
 -- Assumes nothing.
 use Prim.Native.Nat.{ℕ}
 use mathlib.Core.Bool.{Bool, not, cond, _&&_, _||_}
-use mathlib.Core.List.{List}
-use lib.Dec.{eqb, ltb}
-use Rattle.house.specs.Text.{Text, bytes, any, within, isEmpty, same, number}
-use Rattle.lines.specs.Lines.{fieldOf}
-use Rattle.lines.specs.Records.{Rec, IP, II, IE, IN, isKind}
-use Rattle.house.specs.Dates.{isDate}
-use Rattle.rules.specs.Forms.{text, formOf, isJudged, isRelaxed, isMissing, isMisformed, isSound, isType, isCode, isCount}
-use Rattle.rules.specs.Rules.{doseOf, sameCount}
+use lib.Dec.{eqb}
+use Rattle.house.specs.Text.{Text, bytes, within, isEmpty, same, number}
+use Rattle.lines.specs.Records.{Rec, II, IN}
+use Rattle.rules.specs.Forms.{text, formOf, isJudged, isRelaxed, isMissing, isMisformed}
 
 -- II 18 and 19 relax an event: "18 is neither empty nor AB, or 18 is empty and 19 is not"
 unfoldable pub refusedBy : Text → Text → Bool
@@ -33,77 +29,3 @@ lowestIn k relaxed f t later =
 -- field f of this line, read as a record of kind k, is sound if this is its text
 unfoldable pub soundAs : ℕ → Rec → ℕ → Text → Bool
 soundAs k l f t = eqb (lowestIn k (isRelaxed l) f t 0) 0
-
--- Later rules at a field that is sound
-
--- rule 7: a number that is not its place
-unfoldable pub numberLater : ℕ → ℕ → ℕ
-numberLater n place = cond (eqb n place) 0 7
-
--- rule 6: a ULI that is not its IP's
-unfoldable pub uliLater : Text → Rec → ℕ
-uliLater t ip = cond (isSound IP ip 3 && not (same t (text ip 3))) 6 0
-
--- rule 8: a date after today
-unfoldable pub dayLater : Text → ℕ → ℕ
-dayLater t today = cond (isDate t && ltb today (number t)) 8 0
-
--- the day of birth that an IP gives, 0 where it gives none
-unfoldable pub bornOf : Rec → ℕ
-bornOf ip = cond (isSound IP ip 25) (number (text ip 25)) 0
-
--- rule 8: a date after today or before the day of birth
-unfoldable pub dateLater : Text → ℕ → ℕ → ℕ
-dateLater t today born = cond (isDate t && (ltb today (number t) || ltb (number t) born)) 8 0
-
--- rule 3: a version that is not 7.2
-unfoldable pub versionLater : Text → ℕ
-versionLater t = cond (same t (bytes "7.2")) 0 3
-
--- What is asked of each of some lines
-
--- it gives this antigen
-unfoldable pub antigenIs : Text → Rec → Bool
-antigenIs t p = same t (text p 4)
-
--- it is an II with this lot
-unfoldable pub lotIs : Text → Rec → Bool
-lotIs t p = isKind II p && (isSound II p 15 && same t (text p 15))
-
--- rule 14: a lot that an II among these lines has
-unfoldable pub lotLater : Text → List Rec → ℕ
-lotLater t ps = cond (any (lotIs t) ps) 14 0
-
--- a count as a number; 0 where it is not sound
-unfoldable pub doseIn : Text → ℕ
-doseIn t = cond (isCount t) (number t) 0
-
--- it gives this antigen this often
-unfoldable pub countIs : Text → ℕ → Rec → Bool
-countIs t n p = same t (text p 4) && eqb n (doseOf p)
-
--- one of these gives its antigen as often
-unfoldable pub countIn : List Rec → Rec → Bool
-countIn ps l = any (sameCount l) ps
-
--- its antigen and its count are sound
-unfoldable pub soundCount : Rec → Bool
-soundCount l = isSound IE l 4 && isSound IE l 5
-
--- Blocks: what is asked of an II from a field on, which is the first of the text
-
--- from its field 6 on: its date and its vaccine are sound
-unfoldable pub datedFrom : Text → Bool
-datedFrom t = isDate (fieldOf t 1) && isCode (fieldOf t 3)
-
--- from its field 4 on: its type is sound too
-unfoldable pub typedFrom : Text → Bool
-typedFrom t = isType (fieldOf t 1) && (isDate (fieldOf t 3) && isCode (fieldOf t 5))
-
--- two of them, from field 6 on, have one date and one vaccine
-unfoldable pub sameDated : Text → Text → Bool
-sameDated t u = same (fieldOf t 1) (fieldOf u 1) && same (fieldOf t 3) (fieldOf u 3)
-
--- from field 4 on: one type too
-unfoldable pub sameTyped : Text → Text → Bool
-sameTyped t u = same (fieldOf t 1) (fieldOf u 1) && (same (fieldOf t 3) (fieldOf u 3) && same (fieldOf t 5) (fieldOf u 5))

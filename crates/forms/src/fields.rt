@@ -157,7 +157,7 @@ fn is_judged(kind: u8, f: usize) -> bool
 }
 
 // A line's text behind its first f fields.
-pub(crate) fn behind(text: &[u8], f: usize) -> &[u8]
+pub fn behind(text: &[u8], f: usize) -> &[u8]
     ensures { λ r. ⌜ now r ≡ drop (fieldsLen f (now (text .entry))) (now (text .entry)) ⌝ }
 {
     let start = lines::field_start(text, f);
@@ -245,7 +245,7 @@ fn relaxed_at(kind: u8, line: &[u8], f: usize, t: &[u8]) -> bool
 }
 
 // Whether field f of a line is sound, this being its text.
-pub(crate) fn sound_text(kind: u8, line: &[u8], f: usize, t: &[u8]) -> bool
+pub fn sound_text(kind: u8, line: &[u8], f: usize, t: &[u8]) -> bool
     ensures { λ r. ⌜ r ≡ soundAs kind (recOf (now (line .entry))) f (now (t .entry)) ⌝ }
 {
     let loose = relaxed_at(kind, line, f, t);

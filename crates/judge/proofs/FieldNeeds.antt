@@ -22,7 +22,8 @@ use Rattle.rules.specs.Seen.{Setting, Seen}
 use Rattle.rules.specs.Codes.{bookKind, codeRead, codeIn, dayIsSound, recordDay, isInForce}
 use Rattle.rules.specs.Rules.{afterToday, beforeBirth, brokenAt}
 use Rattle.texts.specs.Leaves.{valueOf}
-use Rattle.forms.specs.Leaves.{lowest, lowestIn, numberLater, uliLater, dayLater, bornOf, dateLater, versionLater}
+use Rattle.forms.specs.Leaves.{lowest, lowestIn}
+use Rattle.verdicts.specs.Later.{numberLater, uliLater, dayLater, bornOf, dateLater, versionLater}
 use Rattle.forms.proofs.FieldLaws.{text-is, lowest-of, lowest-either}
 use Rattle.later.specs.declared.Broken.{Broken}
 use Rattle.later.specs.declared.Day.{Day}

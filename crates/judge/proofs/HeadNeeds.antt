@@ -17,8 +17,11 @@ use Rattle.rules.specs.Seen.{Setting, Seen}
 use Rattle.rules.specs.Codes.{bookKind, codeRead, codeIn, dayIsSound, isInForce, pairKind, pairIn}
 use Rattle.rules.specs.Rules.{sameAntigen, rule11, rule12, brokenAt}
 use Rattle.texts.specs.Leaves.{valueOf}
-use Rattle.forms.specs.Leaves.{lowestIn, soundAs, numberLater, uliLater, antigenIs}
-use Rattle.forms.proofs.FieldLaws.{text-is, lowest-either, sound-as, antigens-are}
+use Rattle.forms.specs.Leaves.{lowestIn, soundAs}
+use Rattle.lists.specs.Among.{antigenIs}
+use Rattle.verdicts.specs.Later.{numberLater, uliLater}
+use Rattle.forms.proofs.FieldLaws.{text-is, lowest-either, sound-as}
+use Rattle.lists.proofs.ListLaws.{antigens-are}
 use Rattle.later.specs.declared.Broken.{Broken}
 use Rattle.later.specs.declared.Day.{Day}
 use Rattle.judge.specs.Inside.{listed}

@@ -27,7 +27,7 @@ use Rattle.rules.specs.Seen.{Setting, Seen}
 use Rattle.rules.specs.Codes.{dayField, dayIsSound, recordDay}
 use Rattle.rules.specs.Findings.{fieldsFindings}
 use Rattle.texts.specs.Leaves.{valueOf}
-use Rattle.forms.specs.Leaves.{bornOf}
+use Rattle.verdicts.specs.Later.{bornOf}
 use Rattle.forms.proofs.FieldLaws.{text-is}
 use Rattle.forms.proofs.SoundLaws.{ii-6, in-5}
 use Rattle.index.specs.Firsts.{foundBefore}

@@ -28,7 +28,7 @@ use Rattle.judge.specs.declared.State.{State}
 use Rattle.judge.specs.declared.BlockAt.{BlockAt}
 use Rattle.later.specs.declared.Day.{Day}
 use Rattle.texts.specs.Leaves.{valueOf}
-use Rattle.forms.specs.Leaves.{bornOf}
+use Rattle.verdicts.specs.Later.{bornOf}
 use Rattle.judge.specs.Fields.{dayFrom}
 use Rattle.judge.specs.Walk.{span, linesBefore, SpanIs, LinesAre, Holds, noDay, startState, BlockIs, dayBy, nextPlace, nextOf, nextBorn, nextDay, nextKnown, nextSince, nextLast, nextRun, nextMany, nextFirst, nextIns, advanced, restOf}
 use Rattle.judge.proofs.WalkLaws.{no-recs, kind-is, back-step, recs-next, before-step, joins-open, inb-is, joined-is, from-is, block-is}

@@ -18,8 +18,10 @@ use Rattle.rules.specs.Seen.{Setting, Seen}
 use Rattle.rules.specs.Codes.{isSite, isMethod, bookKind, reasonRead, codeRead, codeIn, dayIsSound, isInForce, pairKind, pairIn}
 use Rattle.rules.specs.Rules.{siteWrong, methodWrong, lacks, countsSound, setsDiffer, sameLot, rule9, rule10, rule11, rule13, rule15, brokenAt}
 use Rattle.texts.specs.Leaves.{valueOf}
-use Rattle.forms.specs.Leaves.{lowest, lowestIn, numberLater, uliLater, dateLater, lotLater}
-use Rattle.forms.proofs.FieldLaws.{text-is, lacks-of, lot-later}
+use Rattle.forms.specs.Leaves.{lowest, lowestIn}
+use Rattle.verdicts.specs.Later.{numberLater, uliLater, dateLater, lotLater}
+use Rattle.forms.proofs.FieldLaws.{text-is, lacks-of}
+use Rattle.verdicts.proofs.VerdictLaws.{lot-later}
 use Rattle.later.specs.declared.Broken.{Broken}
 use Rattle.later.specs.declared.Day.{Day}
 use Rattle.later.specs.declared.Facts.{Facts}

@@ -22,7 +22,7 @@ use Rattle.judge.specs.declared.Known.{Known}
 use Rattle.judge.specs.declared.State.{State}
 use Rattle.judge.specs.declared.BlockAt.{BlockAt}
 use Rattle.later.specs.declared.Day.{Day}
-use Rattle.forms.specs.Leaves.{bornOf}
+use Rattle.verdicts.specs.Later.{bornOf}
 use Rattle.judge.specs.Walk.{partOf, span, blockAt, OwnIs, headAt, nextPlace, nextOf, nextBorn, nextDay, nextKnown, nextSince, nextLast, nextRun, nextMany, nextFirst, nextIns, advanced}
 use Rattle.judge.proofs.WalkLaws.{no-recs, kind-is, recs-next}
 

@@ -14,7 +14,7 @@ use Rattle.rules.specs.Seen.{Setting, Seen}
 use Rattle.rules.specs.Codes.{dayIsSound, recordDay}
 use Rattle.rules.specs.Rules.{rulesOf, brokenBy}
 use Rattle.texts.specs.Leaves.{valueOf}
-use Rattle.forms.specs.Leaves.{bornOf}
+use Rattle.verdicts.specs.Later.{bornOf}
 use Rattle.later.specs.declared.Day.{Day}
 use Rattle.later.specs.declared.Facts.{Facts}
 use Rattle.later.specs.Look.{knownBy, forceBy}

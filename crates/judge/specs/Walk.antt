@@ -26,7 +26,7 @@ use Rattle.judge.specs.declared.BlockAt.{BlockAt}
 use Rattle.later.specs.declared.Facts.{Facts}
 use Rattle.judge.specs.declared.Turn.{Turn}
 use Rattle.later.specs.declared.Day.{Day}
-use Rattle.forms.specs.Leaves.{bornOf}
+use Rattle.verdicts.specs.Later.{bornOf}
 use Rattle.judge.specs.Inside.{kept, keep}
 use Rattle.judge.specs.Fields.{dayFrom, dayIn}
 

@@ -40,7 +40,7 @@ pub(crate) fn judge_iv(line: &[u8], f: usize, t: &[u8]) -> Broken
     ensures { λ r. ⌜ ((s : Setting) (v : Seen) → v .line ≡ recOf (now (line .entry)) → listed r ≡ brokenAt s v f) ⌝ }
 {
     match f {
-        2 => one(forms::version_rule(t)),
+        2 => one(verdicts::version_rule(t)),
         _ => one(forms::basic_rule(IV, false, f, t)),
     }
 }
@@ -52,8 +52,8 @@ pub(crate) fn judge_ip(line: &[u8], place: usize, today: u32, f: usize, t: &[u8]
     ensures { λ r. ⌜ ((s : Setting) (v : Seen) → v .line ≡ recOf (now (line .entry)) → v .place ≡ place → s .today ≡ today → listed r ≡ brokenAt s v f) ⌝ }
 {
     match f {
-        2 => one(forms::number_rule(IP, t, place)),
-        25 => one(forms::day_rule(t, today)),
+        2 => one(verdicts::number_rule(IP, t, place)),
+        25 => one(verdicts::day_rule(t, today)),
         _ => one(forms::basic_rule(IP, false, f, t)),
     }
 }
@@ -76,9 +76,9 @@ pub(crate) fn judge_in(
     ensures { λ r. ⌜ ((s : Setting) (v : Seen) → Looks today (now (book .entry)) q s → Shows place born (now (line .entry)) (now (ip .entry)) v → DayIs day v → listed r ≡ brokenAt s v f) ⌝ }
 {
     match f {
-        2 => one(forms::number_rule(IN, t, place)),
-        3 => one(forms::uli_rule(IN, t, ip)),
-        5 => one(forms::date_rule(IN, 5, t, today, born)),
+        2 => one(verdicts::number_rule(IN, t, place)),
+        3 => one(verdicts::uli_rule(IN, t, ip)),
+        5 => one(verdicts::date_rule(IN, 5, t, today, born)),
         6 => one(later::code_rule(IN, false, 6, t, 6, t, book, q, day)),
         _ => one(forms::basic_rule(IN, false, f, t)),
     }
@@ -102,8 +102,8 @@ pub(crate) fn judge_ia(
     ensures { λ r. ⌜ ((s : Setting) (v : Seen) → Looks today (now (book .entry)) q s → Shows place born (now (line .entry)) (now (ip .entry)) v → DayIs day v → listed r ≡ brokenAt s v f) ⌝ }
 {
     match f {
-        2 => one(forms::number_rule(IA, t, place)),
-        3 => one(forms::uli_rule(IA, t, ip)),
+        2 => one(verdicts::number_rule(IA, t, place)),
+        3 => one(verdicts::uli_rule(IA, t, ip)),
         4 => one(later::code_rule(IA, false, 4, t, 2, t, book, q, day)),
         _ => one(forms::basic_rule(IA, false, f, t)),
     }
@@ -129,8 +129,8 @@ pub(crate) fn judge_ie(
     ensures { λ r. ⌜ ((s : Setting) (v : Seen) → Looks today (now (book .entry)) q s → Shows place born (now (line .entry)) (now (ip .entry)) v → DayIs day v → v .head ≡ recOf (now (head .entry)) → v .antigens ≡ reverse (recs (now (since .entry))) → listed r ≡ brokenAt s v f) ⌝ }
 {
     match f {
-        2 => one(forms::number_rule(IE, t, place)),
-        3 => one(forms::uli_rule(IE, t, ip)),
+        2 => one(verdicts::number_rule(IE, t, place)),
+        3 => one(verdicts::uli_rule(IE, t, ip)),
         4 => later::antigen_at(line, head, since, t, book, q, day),
         _ => one(forms::basic_rule(IE, false, f, t)),
     }

@@ -38,10 +38,10 @@ pub(crate) fn judge_ii(
     ensures { λ r. ⌜ ((s : Setting) (v : Seen) → Looks today (now (book .entry)) q s → Shows place born (now (line .entry)) (now (ip .entry)) v → DayIs day v → Blocked facts (now (line .entry)) (now (block .entry)) (now (own .entry)) (now (first .entry)) v → listed r ≡ brokenAt s v f) ⌝ }
 {
     match f {
-        2 => one(forms::number_rule(II, t, place)),
-        3 => one(forms::uli_rule(II, t, ip)),
+        2 => one(verdicts::number_rule(II, t, place)),
+        3 => one(verdicts::uli_rule(II, t, ip)),
         4 => later::type_at(t, facts),
-        6 => one(forms::date_rule(II, 6, t, today, born)),
+        6 => one(verdicts::date_rule(II, 6, t, today, born)),
         8 => later::vaccine_at(t, own, first, book, q, day, facts),
         9 => later::site_at(line, relaxed, t),
         10 => later::method_at(line, relaxed, t),
@@ -49,7 +49,7 @@ pub(crate) fn judge_ii(
         12 => later::dosage_at(line, relaxed, t),
         13 => later::dosage_type_at(line, relaxed, t, book, q, day),
         14 => one(later::code_rule(II, relaxed, 14, t, 4, t, book, q, day)),
-        15 => one(forms::lot_rule(relaxed, t, block)),
+        15 => one(verdicts::lot_rule(relaxed, t, block)),
         _ => one(forms::basic_rule(II, relaxed, f, t)),
     }
 }

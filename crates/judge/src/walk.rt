@@ -100,7 +100,7 @@ fn next_born(born: u32, k: u8, line: &[u8]) -> u32
     ensures { λ r. ⌜ r ≡ nextBorn born k (now (line .entry)) ⌝ }
 {
     if k == lines::IP {
-        forms::born(line)
+        verdicts::born(line)
     } else {
         born
     }
@@ -190,11 +190,11 @@ pub(crate) fn block_of(file: &[u8], at: usize, st: State, line: &[u8]) -> BlockA
     ensures { λ r. ⌜ BlockIs (now (file .entry)) at st (now (line .entry)) r ⌝ }
 {
     let run = st.run;
-    if forms::in_block(line) {
+    if blocks::in_block(line) {
         let last = st.last;
         let start = last.start;
         let end = last.end;
-        if forms::joins(line, &file[start..end]) {
+        if blocks::joins(line, &file[start..end]) {
             return BlockAt {
                 inb: true,
                 joined: true,

@@ -11,7 +11,8 @@ use Rattle.book.specs.declared.Sections.{Sections}
 use Rattle.rules.specs.Forms.{text, isGiven}
 use Rattle.rules.specs.Codes.{isSite, isMethod, reasonRead}
 use Rattle.rules.specs.Rules.{siteWrong, methodWrong, countsSound, setsDiffer}
-use Rattle.forms.specs.Leaves.{lowestIn, antigenIs}
+use Rattle.forms.specs.Leaves.{lowestIn}
+use Rattle.lists.specs.Among.{antigenIs}
 use Rattle.later.specs.declared.Day.{Day}
 use Rattle.later.specs.declared.Facts.{Facts}
 use Rattle.later.specs.Fields.{broken, codeLater, ledgerRule, codeBy, pairBy, lackBy, typeAt, vaccineAt, siteAt, methodAt, reasonAt, dosageAt, dosageTypeAt, antigenAt}

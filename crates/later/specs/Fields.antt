@@ -13,7 +13,8 @@ use Rattle.rules.specs.Forms.{text, isGiven}
 use Rattle.rules.specs.Blocks.{adds, changes, deletes}
 use Rattle.rules.specs.Codes.{isSite, isMethod, reasonRead}
 use Rattle.rules.specs.Rules.{siteWrong, methodWrong, countsSound, setsDiffer}
-use Rattle.forms.specs.Leaves.{lowestIn, antigenIs}
+use Rattle.forms.specs.Leaves.{lowestIn}
+use Rattle.lists.specs.Among.{antigenIs}
 use Rattle.later.specs.declared.Broken.{Broken}
 use Rattle.later.specs.declared.Day.{Day}
 use Rattle.later.specs.declared.Facts.{Facts}

@@ -9,7 +9,8 @@ ghost use Rattle.lines.specs.Records.{recOf, recs};
 ghost use Rattle.rules.specs.Forms.{text, isGiven};
 ghost use Rattle.rules.specs.Codes.{isSite, isMethod};
 ghost use Rattle.rules.specs.Rules.{siteWrong, methodWrong, countsSound, setsDiffer};
-ghost use Rattle.forms.specs.Leaves.{lowestIn, antigenIs};
+ghost use Rattle.forms.specs.Leaves.{lowestIn};
+ghost use Rattle.lists.specs.Among.{antigenIs};
 ghost use Rattle.later.specs.Fields.{codeLater, ledgerRule, lackBy};
 
 // II 9: rules 1, 2 and 4.
@@ -92,7 +93,7 @@ pub(crate) fn again_rule(t: &[u8], since: &[u8]) -> u8
     ensures { λ r. ⌜ r ≡ cond (eqb (lowestIn 5 false 4 (now (t .entry)) 0) 0 && any (antigenIs (now (t .entry))) (recs (now (since .entry)))) 12 0 ⌝ }
 {
     if forms::basic_rule(IE, false, 4, t) == 0 {
-        if forms::any_antigen(t, since) {
+        if lists::any_antigen(t, since) {
             return 12;
         }
     }
@@ -104,9 +105,9 @@ pub(crate) fn set_rule(joined: bool, own: &[u8], first: &[u8]) -> u8
     ensures { λ r. ⌜ r ≡ cond (joined && (countsSound (recs (now (own .entry))) && (countsSound (recs (now (first .entry))) && setsDiffer (recs (now (own .entry))) (recs (now (first .entry)))))) 13 0 ⌝ }
 {
     if joined {
-        if forms::sets_differ(own, first) {
-            if forms::counts_sound(own) {
-                if forms::counts_sound(first) {
+        if lists::sets_differ(own, first) {
+            if lists::counts_sound(own) {
+                if lists::counts_sound(first) {
                     return 13;
                 }
             }

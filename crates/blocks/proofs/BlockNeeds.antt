@@ -1,0 +1,138 @@
+-- What each need of the functions on blocks asks.
+-- Assumes nothing.
+use mathlib.Core.Path.{_≡_, sym, _∙_}
+use mathlib.Core.Bool.{Bool, true, false, and-false}
+use Prim.Native.Nat.{ℕ, suc, _+_}
+use borrow.Author.Needs.{needs}
+use borrow.Author.Tests.{eq-eqb, ne-eqb}
+use lib.ListN.{drop}
+use Rattle.house.specs.Text.{Text, same}
+use Rattle.house.specs.Dates.{isDate}
+use Rattle.lines.specs.Lines.{fieldOf, fieldsLen}
+use Rattle.lines.specs.Records.{recordOf, recOf}
+use Rattle.rules.specs.Forms.{isUli, isType, isCode}
+use Rattle.rules.specs.Blocks.{isInBlock, sameEvent, joins}
+use Rattle.blocks.specs.From.{datedFrom, typedFrom, sameDated, sameTyped}
+use Rattle.forms.proofs.FieldLaws.{text-is, kind-is}
+use Rattle.forms.proofs.FieldLaws.{field-behind}
+use Rattle.forms.proofs.SoundLaws.{ii-3, ii-4, ii-6, ii-8}
+
+-- same_first
+pub first-same : (a b t u : Text) (x : Bool) → t ≡ fieldOf a 1 → u ≡ fieldOf b 1 → x ≡ same t u → x ≡ same (fieldOf a 1) (fieldOf b 1)
+first-same a b t u x c d e = rw (← c, ← d) e
+
+pub ruleset for-same-first = (needs, first-same)
+
+-- same_dated, same_typed: a and b go on at p and q
+module _ (a b : Text) (x : Bool) (e : x ≡ same (fieldOf a 1) (fieldOf b 1)) where
+  pub dated-other : x ≡ false → false ≡ sameDated a b
+  unfolding sameDated
+  dated-other h = rw (← e, h)
+
+  pub typed-other : x ≡ false → false ≡ sameTyped a b
+  unfolding sameTyped
+  typed-other h = rw (← e, h)
+
+  module _ (h : x ≡ true) (p q : Text) (c : p ≡ drop (fieldsLen 2 a) a) (d : q ≡ drop (fieldsLen 2 b) b) (y : Bool) where
+    pub dated-same : y ≡ same (fieldOf p 1) (fieldOf q 1) → y ≡ sameDated a b
+    unfolding sameDated
+    dated-same f = rw (← e, h, ← field-behind a p 2 0 c, ← field-behind b q 2 0 d) f
+
+    pub typed-same : y ≡ sameDated p q → y ≡ sameTyped a b
+    unfolding sameDated sameTyped
+    typed-same f =
+        rw (← e, h, ← field-behind a p 2 0 c, ← field-behind b q 2 0 d, ← field-behind a p 2 2 c, ← field-behind b q 2 2 d) f
+
+pub ruleset for-same-dated = (needs, dated-other, dated-same)
+
+pub ruleset for-same-typed = (needs, typed-other, typed-same)
+
+-- Field 4 and those after it, of a line l that goes on at its field 3 and then at its field 4
+module _ (l third fourth : Text) (c : third ≡ drop (fieldsLen 2 l) l) (d : fourth ≡ drop (fieldsLen 1 third) third) where
+  from-fourth : (j : ℕ) → fieldOf l (suc (2 + (1 + j))) ≡ fieldOf fourth (suc j)
+  from-fourth j = sym (field-behind third fourth 1 j d ∙ field-behind l third 2 (1 + j) c)
+
+  is-4 : fieldOf l 4 ≡ fieldOf fourth 1
+  is-4 = from-fourth 0
+
+  is-6 : fieldOf l 6 ≡ fieldOf fourth 3
+  is-6 = from-fourth 2
+
+  is-8 : fieldOf l 8 ≡ fieldOf fourth 5
+  is-8 = from-fourth 4
+
+-- joins
+module _ (a b p q : Text) (c : p ≡ drop (fieldsLen 2 a) a) (d : q ≡ drop (fieldsLen 2 b) b) (x : Bool) (e : x ≡ same (fieldOf p 1) (fieldOf q 1)) where
+  same-3 : same (fieldOf a 3) (fieldOf b 3) ≡ x
+  same-3 = rw (← field-behind a p 2 0 c, ← field-behind b q 2 0 d) (sym e)
+
+  pub join-other : x ≡ false → false ≡ joins (recOf a) (recOf b)
+  unfolding joins sameEvent
+  join-other h = simp (text-is, same-3, h) (sym (and-false (same (fieldOf a 4) (fieldOf b 4))))
+
+  pub join-same : (v w : Text) (y : Bool) → x ≡ true → v ≡ drop (fieldsLen 1 p) p → w ≡ drop (fieldsLen 1 q) q → y ≡ sameTyped v w → y ≡ joins (recOf a) (recOf b)
+  unfolding joins sameEvent sameTyped
+  join-same v w y h f g k =
+      simp (text-is, same-3, h, is-4 a p v c f, is-6 a p v c f, is-8 a p v c f, is-4 b q w d g, is-6 b q w d g, is-8 b q w d g) k
+
+pub ruleset for-joins = (needs, join-other, join-same)
+
+-- is_dated_code, is_typed_code: s goes on at r
+module _ (s t : Text) (d : t ≡ fieldOf s 1) (x : Bool) where
+  pub dated-not : x ≡ isDate t → x ≡ false → false ≡ datedFrom s
+  unfolding datedFrom
+  dated-not e h = rw (← d, ← e, h)
+
+  pub typed-not : x ≡ isType t → x ≡ false → false ≡ typedFrom s
+  unfolding typedFrom
+  typed-not e h = rw (← d, ← e, h)
+
+  module _ (h : x ≡ true) (r : Text) (c : r ≡ drop (fieldsLen 2 s) s) (y : Bool) where
+    pub dated-both : (u : Text) → x ≡ isDate t → u ≡ fieldOf r 1 → y ≡ isCode u → y ≡ datedFrom s
+    unfolding datedFrom
+    dated-both u e g f = rw (← d, ← e, h, ← field-behind s r 2 0 c, ← g) f
+
+    pub typed-all : x ≡ isType t → y ≡ datedFrom r → y ≡ typedFrom s
+    unfolding datedFrom typedFrom
+    typed-all e f = rw (← d, ← e, h, ← field-behind s r 2 0 c, ← field-behind s r 2 2 c) f
+
+pub ruleset for-dated-code = (needs, dated-not, dated-both)
+
+pub ruleset for-typed-code = (needs, typed-not, typed-all)
+
+-- in_block
+module _ (l : Text) (k : ℕ) (d : k ≡ recordOf l) where
+  pub block-kind : (k ≡ 4 → ⊥) → false ≡ isInBlock (recOf l)
+  unfolding isInBlock
+  block-kind n = rw (kind-is, ← d, ne-eqb k 4 n)
+
+  module _ (z : k ≡ 4) (p : Text) (c : p ≡ drop (fieldsLen 2 l) l) (t : Text) (g : t ≡ fieldOf p 1) (x : Bool) (e : x ≡ isUli t) where
+    is-3 : fieldOf l 3 ≡ t
+    is-3 = sym (g ∙ field-behind l p 2 0 c)
+
+    pub block-3 : x ≡ false → false ≡ isInBlock (recOf l)
+    unfolding isInBlock
+    block-3 h = rw (kind-is, ← d, eq-eqb k 4 z, ii-3 (recOf l), text-is l 3, is-3, ← e, h)
+
+    pub block-all : (q : Text) (y : Bool) → x ≡ true → q ≡ drop (fieldsLen 1 p) p → y ≡ typedFrom q → y ≡ isInBlock (recOf l)
+    unfolding isInBlock typedFrom
+    block-all q y h b f =
+        simp (
+          kind-is,
+          ← d,
+          eq-eqb k 4 z,
+          ii-3 (recOf l),
+          ii-4 (recOf l),
+          ii-6 (recOf l),
+          ii-8 (recOf l),
+          text-is,
+          is-3,
+          ← e,
+          h,
+          is-4 l p q c b,
+          is-6 l p q c b,
+          is-8 l p q c b,
+        )
+        f
+
+pub ruleset for-in-block = (needs, block-kind, block-3, block-all)

@@ -1,0 +1,6 @@
+-- The laws of the crate, for the crates above and for its own proofs.
+-- Assumes nothing.
+-- What the functions' own needs ask
+mod BlockNeeds
+-- No second answer
+mod OneAnswer

@@ -1,0 +1,17 @@
+use Rattle.blocks.proofs.BlockNeeds.{for-in-block}
+use Rattle.blocks.proofs.in_block.Statement.{statement}
+use Rattle.blocks.proofs.in_block.Tie as tie
+
+pub in-block-spec : {M : Type 1} → statement M
+in-block-spec =
+    tie.close
+    (tie.spec
+    (λ c. search for-in-block)
+    (λ c. search for-in-block)
+    (λ c. search for-in-block)
+    (λ c. search for-in-block)
+    (λ c. search for-in-block)
+    (λ c. search for-in-block)
+    (λ c. search for-in-block)
+    (λ c. search for-in-block)
+    (λ c. search for-in-block))

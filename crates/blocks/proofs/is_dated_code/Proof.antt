@@ -1,0 +1,15 @@
+use Rattle.blocks.proofs.BlockNeeds.{for-dated-code}
+use Rattle.blocks.proofs.is_dated_code.Statement.{statement}
+use Rattle.blocks.proofs.is_dated_code.Tie as tie
+
+pub is-dated-code-spec : {M : Type 1} → statement M
+is-dated-code-spec =
+    tie.close
+    (tie.spec
+    (λ c. search for-dated-code)
+    (λ c. search for-dated-code)
+    (λ c. search for-dated-code)
+    (λ c. search for-dated-code)
+    (λ c. search for-dated-code)
+    (λ c. search for-dated-code)
+    (λ c. search for-dated-code))

@@ -1,0 +1,14 @@
+use Rattle.blocks.proofs.BlockNeeds.{for-typed-code}
+use Rattle.blocks.proofs.is_typed_code.Statement.{statement}
+use Rattle.blocks.proofs.is_typed_code.Tie as tie
+
+pub is-typed-code-spec : {M : Type 1} → statement M
+is-typed-code-spec =
+    tie.close
+    (tie.spec
+    (λ c. search for-typed-code)
+    (λ c. search for-typed-code)
+    (λ c. search for-typed-code)
+    (λ c. search for-typed-code)
+    (λ c. search for-typed-code)
+    (λ c. search for-typed-code))

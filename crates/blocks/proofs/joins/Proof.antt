@@ -1,0 +1,16 @@
+use Rattle.blocks.proofs.BlockNeeds.{for-joins}
+use Rattle.blocks.proofs.joins.Statement.{statement}
+use Rattle.blocks.proofs.joins.Tie as tie
+
+pub joins-spec : {M : Type 1} → statement M
+joins-spec =
+    tie.close
+    (tie.spec
+    (λ c. search for-joins)
+    (λ c. search for-joins)
+    (λ c. search for-joins)
+    (λ c. search for-joins)
+    (λ c. search for-joins)
+    (λ c. search for-joins)
+    (λ c. search for-joins)
+    (λ c. search for-joins))

@@ -1,0 +1,14 @@
+use Rattle.blocks.proofs.BlockNeeds.{for-same-dated}
+use Rattle.blocks.proofs.same_dated.Statement.{statement}
+use Rattle.blocks.proofs.same_dated.Tie as tie
+
+pub same-dated-spec : {M : Type 1} → statement M
+same-dated-spec =
+    tie.close
+    (tie.spec
+    (λ c. search for-same-dated)
+    (λ c. search for-same-dated)
+    (λ c. search for-same-dated)
+    (λ c. search for-same-dated)
+    (λ c. search for-same-dated)
+    (λ c. search for-same-dated))

@@ -1,0 +1,14 @@
+use Rattle.blocks.proofs.BlockNeeds.{for-same-typed}
+use Rattle.blocks.proofs.same_typed.Statement.{statement}
+use Rattle.blocks.proofs.same_typed.Tie as tie
+
+pub same-typed-spec : {M : Type 1} → statement M
+same-typed-spec =
+    tie.close
+    (tie.spec
+    (λ c. search for-same-typed)
+    (λ c. search for-same-typed)
+    (λ c. search for-same-typed)
+    (λ c. search for-same-typed)
+    (λ c. search for-same-typed)
+    (λ c. search for-same-typed))

@@ -1,0 +1,14 @@
+-- `lists::count_sound` meets its contract.
+-- Assumes nothing.
+use Rattle.lists.proofs.ListNeeds.{for-count-sound}
+use Rattle.lists.proofs.count_sound.Statement.{statement}
+use Rattle.lists.proofs.count_sound.Tie as tie
+
+pub count-sound-spec : {M : Type 1} → statement M
+count-sound-spec =
+    tie.close
+    (tie.spec
+    (λ c. search for-count-sound)
+    (λ c. search for-count-sound)
+    (λ c. search for-count-sound)
+    (λ c. search for-count-sound))

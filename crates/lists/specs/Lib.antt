@@ -1,0 +1,3 @@
+-- What is asked of each of some lines.
+-- Assumes nothing.
+pub mod Among

@@ -1,0 +1,13 @@
+-- `verdicts::lot_later` meets its contract.
+-- Assumes nothing.
+use Rattle.verdicts.proofs.VerdictNeeds.{for-lot-later}
+use Rattle.verdicts.proofs.lot_later.Statement.{statement}
+use Rattle.verdicts.proofs.lot_later.Tie as tie
+
+pub lot-later-spec : {M : Type 1} → statement M
+lot-later-spec =
+    tie.close
+    (tie.spec
+    (λ c. search for-lot-later)
+    (λ c. search for-lot-later)
+    (λ c. search for-lot-later))
