@@ -78,7 +78,7 @@ pub fn method_at(line: &[u8], relaxed: bool, t: &[u8]) -> Broken
 pub fn reason_at(line: &[u8], relaxed: bool, t: &[u8], book: &[u8], q: Sections, day: Day) -> Broken
     ensures { λ r. ⌜ r ≡ reasonAt (recOf (now (line .entry))) relaxed (now (t .entry)) (now (book .entry)) q day ⌝ }
 {
-    let read = texts::reason_read(t);
+    let read = tables::reason_read(t);
     let a = code_rule(II, relaxed, 11, t, 3, &read, book, q, day);
     let b = pair_rule(a, II, line, 11, t, 3, &read, 7, line, book, q, day);
     Broken { a, b, c: 0 }

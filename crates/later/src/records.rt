@@ -24,7 +24,7 @@ pub(crate) fn site_rule(relaxed: bool, t: &[u8]) -> u8
     if t.len() == 0 {
         return 0;
     }
-    if texts::is_site(t) { 0 } else { 4 }
+    if tables::is_site(t) { 0 } else { 4 }
 }
 
 // II 10: rules 1, 2 and 4.
@@ -38,7 +38,7 @@ pub(crate) fn method_rule(relaxed: bool, t: &[u8]) -> u8
     if t.len() == 0 {
         return 0;
     }
-    if texts::is_method(t) { 0 } else { 4 }
+    if tables::is_method(t) { 0 } else { 4 }
 }
 
 // Whether site and method are both given.
@@ -56,7 +56,7 @@ fn both_given(line: &[u8]) -> bool
 pub(crate) fn site_against(line: &[u8], site: &[u8]) -> u8
     ensures { λ r. ⌜ r ≡ cond (siteWrong (now (site .entry)) (text (recOf (now (line .entry))) 10) && (isGiven 4 (recOf (now (line .entry))) 9 && isGiven 4 (recOf (now (line .entry))) 10)) 9 0 ⌝ }
 {
-    if texts::site_wrong(site, lines::field_of(line, 10)) {
+    if tables::site_wrong(site, lines::field_of(line, 10)) {
         if both_given(line) {
             return 9;
         }
@@ -68,7 +68,7 @@ pub(crate) fn site_against(line: &[u8], site: &[u8]) -> u8
 pub(crate) fn method_against(line: &[u8], method: &[u8]) -> u8
     ensures { λ r. ⌜ r ≡ cond (methodWrong (text (recOf (now (line .entry))) 9) (now (method .entry)) && (isGiven 4 (recOf (now (line .entry))) 9 && isGiven 4 (recOf (now (line .entry))) 10)) 9 0 ⌝ }
 {
-    if texts::method_wrong(lines::field_of(line, 9), method) {
+    if tables::method_wrong(lines::field_of(line, 9), method) {
         if both_given(line) {
             return 9;
         }

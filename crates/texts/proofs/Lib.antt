@@ -4,6 +4,5 @@
 pub mod TextLaws
 -- What the functions' own needs ask
 mod TextNeeds
-mod CodeNeeds
 -- No second answer
 mod OneAnswer

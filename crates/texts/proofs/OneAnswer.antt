@@ -1,11 +1,9 @@
 -- No second answer meets the contract of a public function: each contract is an equation with what a definition gives.
 -- Assumes nothing.
 use mathlib.Core.Path.{_≡_, sym, _∙_}
-use Rattle.house.specs.Text.{Text, pad}
+use Rattle.house.specs.Text.{Text}
 use Rattle.house.specs.Dates.{isDate}
 use Rattle.rules.specs.Forms.{isPrefix, isBatch, isTotal, isNumber, isUli, isType, isHistorical, isCode, isSiteText, isMethodText, isReason, isDosage, isDosageType, isManufacturer, isLot, isCount, isReasonNot, isOrganization, isGrade}
-use Rattle.rules.specs.Codes.{isSite, isMethod, reasonRead}
-use Rattle.rules.specs.Rules.{siteWrong, methodWrong}
 use Rattle.texts.specs.Leaves.{valueOf}
 
 abbrev One : {A : Type 0} → A → Type 0
@@ -76,18 +74,3 @@ is-grade t = one _
 
 value : (t : Text) → One (valueOf t)
 value t = one _
-
-is-site : (t : Text) → One (isSite t)
-is-site t = one _
-
-is-method : (t : Text) → One (isMethod t)
-is-method t = one _
-
-reason-read : (t : Text) → One (pad 2 (reasonRead t))
-reason-read t = one _
-
-site-wrong : (s m : Text) → One (siteWrong s m)
-site-wrong s m = one _
-
-method-wrong : (s m : Text) → One (methodWrong s m)
-method-wrong s m = one _

@@ -1,12 +1,6 @@
-// Texts: what one text, or two, decide alone: the forms of fields, numbers, sites, methods and reasons.
-mod codes;
+// Texts: what one text decides alone: the forms of fields, and numbers.
 mod forms;
 
-pub use codes::is_method;
-pub use codes::is_site;
-pub use codes::method_wrong;
-pub use codes::reason_read;
-pub use codes::site_wrong;
 pub use forms::is_batch;
 pub use forms::is_code;
 pub use forms::is_count;

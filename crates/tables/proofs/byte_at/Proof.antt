@@ -1,8 +1,8 @@
--- `texts::codes::byte_at` meets its contract.
+-- `tables::byte_at` meets its contract.
 -- Assumes nothing.
-use Rattle.texts.proofs.CodeNeeds.{for-byte-at}
-use Rattle.texts.proofs.codes.byte_at.Statement.{statement}
-use Rattle.texts.proofs.codes.byte_at.Tie as tie
+use Rattle.tables.proofs.CodeNeeds.{for-byte-at}
+use Rattle.tables.proofs.byte_at.Statement.{statement}
+use Rattle.tables.proofs.byte_at.Tie as tie
 
 pub byte-at-spec : {M : Type 1} → statement M
 byte-at-spec =

@@ -1,8 +1,8 @@
--- `texts::codes::reason_read` meets its contract.
+-- `tables::reason_read` meets its contract.
 -- Assumes nothing.
-use Rattle.texts.proofs.CodeNeeds.{for-reason-read}
-use Rattle.texts.proofs.codes.reason_read.Statement.{statement}
-use Rattle.texts.proofs.codes.reason_read.Tie as tie
+use Rattle.tables.proofs.CodeNeeds.{for-reason-read}
+use Rattle.tables.proofs.reason_read.Statement.{statement}
+use Rattle.tables.proofs.reason_read.Tie as tie
 
 pub reason-read-spec : {M : Type 1} → statement M
 reason-read-spec =

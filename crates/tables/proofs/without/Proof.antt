@@ -1,8 +1,8 @@
--- `texts::codes::without` meets its contract.
+-- `tables::without` meets its contract.
 -- Assumes nothing.
-use Rattle.texts.proofs.CodeNeeds.{for-without}
-use Rattle.texts.proofs.codes.without.Statement.{statement}
-use Rattle.texts.proofs.codes.without.Tie as tie
+use Rattle.tables.proofs.CodeNeeds.{for-without}
+use Rattle.tables.proofs.without.Statement.{statement}
+use Rattle.tables.proofs.without.Tie as tie
 
 pub without-spec : {M : Type 1} → statement M
 without-spec =

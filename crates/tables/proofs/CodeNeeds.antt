@@ -16,7 +16,7 @@ use Rattle.house.proofs.Facts.{both, both5, either, is-true, bool-ext}
 use Rattle.house.proofs.Decisions.{same-is, is-same, not-same}
 use Rattle.rules.specs.Codes.{isSite, isMethod, reasonRead}
 use Rattle.rules.specs.Rules.{without, siteWrong, methodWrong}
-use Rattle.texts.specs.Leaves.{packedOf, Packed}
+use Rattle.tables.specs.Packed.{packedOf, Packed}
 
 -- byte_at, packed
 pub byte-past : (t : Text) (i : ℕ) → length t ≤ i → 0 ≡ getD t i 0

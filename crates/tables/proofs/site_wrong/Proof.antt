@@ -1,8 +1,8 @@
--- `texts::codes::site_wrong` meets its contract.
+-- `tables::site_wrong` meets its contract.
 -- Assumes nothing.
-use Rattle.texts.proofs.CodeNeeds.{for-wrong}
-use Rattle.texts.proofs.codes.site_wrong.Statement.{statement}
-use Rattle.texts.proofs.codes.site_wrong.Tie as tie
+use Rattle.tables.proofs.CodeNeeds.{for-wrong}
+use Rattle.tables.proofs.site_wrong.Statement.{statement}
+use Rattle.tables.proofs.site_wrong.Tie as tie
 
 pub site-wrong-spec : {M : Type 1} → statement M
 site-wrong-spec =

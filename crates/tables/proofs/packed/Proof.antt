@@ -1,8 +1,8 @@
--- `texts::codes::packed` meets its contract.
+-- `tables::packed` meets its contract.
 -- Assumes nothing.
-use Rattle.texts.proofs.CodeNeeds.{for-packed}
-use Rattle.texts.proofs.codes.packed.Statement.{statement}
-use Rattle.texts.proofs.codes.packed.Tie as tie
+use Rattle.tables.proofs.CodeNeeds.{for-packed}
+use Rattle.tables.proofs.packed.Statement.{statement}
+use Rattle.tables.proofs.packed.Tie as tie
 
 pub packed-spec : {M : Type 1} → statement M
 packed-spec =

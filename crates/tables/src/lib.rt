@@ -1,11 +1,11 @@
-// Sites, methods and reasons: the codes that need no book.
+// Sites, methods and reasons: the codes that need no book, and rule 9 between a site and a method.
 ghost use mathlib.Core.Path.{_≡_};
 ghost use Prim.Native.Nat.{_<_};
 ghost use lib.ListN.{getD};
 ghost use Rattle.house.specs.Text.{pad};
 ghost use Rattle.rules.specs.Codes.{isSite, isMethod, reasonRead};
 ghost use Rattle.rules.specs.Rules.{without, siteWrong, methodWrong};
-ghost use Rattle.texts.specs.Leaves.{Packed};
+ghost use Rattle.tables.specs.Packed.{Packed};
 
 // A byte as a wider number.
 fn wide(b: u8) -> u32
