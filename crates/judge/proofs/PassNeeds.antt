@@ -13,7 +13,7 @@ use lib.Seq.{length-take-le}
 use Rattle.house.specs.Text.{Text, all, digits, number, isDigit, front, count, within}
 use Rattle.house.specs.Key.{keyOf}
 use Rattle.house.specs.Dates.{isDate, isDay}
-use Rattle.house.proofs.Small.{both}
+use Rattle.house.proofs.Small.{both, clash}
 use Rattle.lines.specs.declared.LineAt.{LineAt}
 use Rattle.lines.specs.Lines.{LineIs, fieldOf, fieldsOf}
 use Rattle.lines.specs.Records.{Rec, II, IE, IN, IA, isKind, recordOf, recOf, recs}
@@ -94,13 +94,13 @@ module _ (k : ℕ) (line : Text) (known : Known) where
 pub ruleset for-day-of = (needs, day-ii, day-ie, day-in, day-other)
 
 -- own_end
-pub own-ii : (file : Text) (k from r : ℕ) → OwnIs file from r → OwnEnd file k from r
-own-ii file k from r o = record { ii-own = λ z. o .own-is; end-from = o .own-from; end-in = o .own-in }
+pub own-joined : (file : Text) (joined : Bool) (from r : ℕ) → OwnIs file from r → OwnEnd file joined from r
+own-joined file joined from r o = record { joined-own = λ z. o .own-is; end-from = o .own-from; end-in = o .own-in }
 
-pub own-none : (file : Text) (k from : ℕ) → (k ≡ 4 → ⊥) → from ≤ length file → OwnEnd file k from from
-own-none file k from n h = record { ii-own = λ z. absurd (n z); end-from = omega arith; end-in = h }
+pub own-none : (file : Text) (joined : Bool) (from : ℕ) → joined ≡ false → from ≤ length file → OwnEnd file joined from from
+own-none file joined from n h = record { joined-own = λ z. clash (sym n ∙ z); end-from = omega arith; end-in = h }
 
-pub ruleset for-own-end = (needs, own-ii, own-none)
+pub ruleset for-own-end = (needs, own-joined, own-none)
 
 -- THE DAY OF A LINE
 
@@ -215,8 +215,8 @@ module _ (file : Text) (at : ℕ) (l : LineAt) (k : ℕ) (st : State) (b : Block
   pub line-less : (count r : ℕ) → count ≤ 3 * at → r ≤ count + 3 * length (fieldsOf (part file at (l .end))) → r ≤ 3 * l .next
   line-less count r c m = omega (arith, fields-few (part file at (l .end)), long, e .from, e .on)
 
-  pub parts-in : (p : Span) → p ≡ headAt st k (span at (l .end)) → (own : ℕ) → OwnEnd file k (l .next) own → PartsIn file at l st (b .from) p own
-  parts-in p i own o =
+  pub parts-in : (p : Span) → p ≡ headAt st k (span at (l .end)) → (joined : Bool) (own : ℕ) → OwnEnd file joined (l .next) own → PartsIn file at l st (b .from) p own
+  parts-in p i joined own o =
       record {
         line-from = e .from;
         line-in = end-in;
@@ -237,8 +237,8 @@ module _ (file : Text) (at : ℕ) (l : LineAt) (k : ℕ) (st : State) (b : Block
   pub next-ended : l .next < length file → whole (take (l .next) file) ≡ true
   next-ended = holds-step file at st h l e (g .less) k (g .kind-is) b (g .block-is) (dayBy k (part file at (l .end)) (st .known)) refl .ended
 
-  module _ (p : Span) (i : p ≡ headAt st k (span at (l .end))) (own : ℕ) (o : OwnEnd file k (l .next) own) (day : Day) (d : day ≡ dayBy k (part file at (l .end)) (st .known))
-      (facts : Facts) (today : ℕ) (book : Text) (q : Sections) where
+  module _ (p : Span) (i : p ≡ headAt st k (span at (l .end))) (facts : Facts) (own : ℕ) (o : OwnEnd file (facts .joined) (l .next) own)
+      (day : Day) (d : day ≡ dayBy k (part file at (l .end)) (st .known)) (today : ℕ) (book : Text) (q : Sections) where
     abbrev view : Seen
     view = seenWith file at st (part file at (l .end)) (headAt st k (span at (l .end))) (b .from) (front (isKind IE) (recs (drop (l .next) file))) facts
 
@@ -265,7 +265,7 @@ module _ (file : Text) (at : ℕ) (l : LineAt) (k : ℕ) (st : State) (b : Block
                 inb-is = refl;
                 joined-is = refl;
                 block-is = refl;
-                own-is = o .ii-own f;
+                own-is = o .joined-own;
                 first-is = refl;
                 repeated-is = refl;
                 live-is = refl;

@@ -96,6 +96,10 @@ module _ (line book : Text) (q : Sections) (day : Day) where
 
 -- II
 
+masked : (j : Bool) (p : List Rec → Bool) (xs ys : List Rec) → (j ≡ true → ys ≡ xs) → (j && p xs) ≡ (j && p ys)
+masked true p xs ys e = ap p (sym (e refl))
+masked false p xs ys e = refl
+
 module _ (line t ip block own first book : Text) (q : Sections) (place born : ℕ) (day : Day) (today : ℕ) (facts : Facts) (x : Bool) (rx : x ≡ isRelaxed (recOf line)) (e : recordOf line ≡ 4) where
   module _ (s : Setting) (v : Seen) (ls : Looks today book q s) (sh : Shows place born line ip v) (d : DayIs day v) (bl : Blocked facts line block own first v) where
     kind-ii : v .line .kind ≡ II
@@ -147,7 +151,8 @@ module _ (line t ip block own first book : Text) (q : Sections) (place born : �
         three-same _ _ _ _ _ _
         (by-either II line (fieldOf line 8) 8 refl (codeOf 1 (fieldOf line 8) book q day) false refl
         ∙ code-low 8 1 (fieldOf line 8) (ap (λ (u : Text). codeText 1 u []) (text-ii 8)))
-        (rw (sets-back (recs own) (recs first), thirteen s v kind-ii, bl .joined-is, bl .own-is, bl .first-is))
+        (ap (λ (u : Bool). cond u 13 0) (masked (facts .joined) (λ (os : List Rec). countsSound os && (countsSound (recs first) && setsDiffer os (recs first))) (recs own) (v .own) (bl .own-is))
+        ∙ rw (sets-back (v .own) (recs first), thirteen s v kind-ii, bl .joined-is, bl .first-is))
         (rw (fifteen s v kind-ii, bl .repeated-is))
         ∙ sym (code-two s v II 8 kind-ii (known 8 1) (out 8 1) (rule13 s v 8) (rule15 s v 8) 13 15 refl refl (ii-8 s v kind-ii))
 

@@ -52,13 +52,13 @@ pub record Looks (today : ℕ) (book : Text) (q : Sections) (s : Setting) : Type
   pub known-is : s .known ≡ knownBy book q
   pub force-is : s .in-force ≡ forceBy book q
 
--- what an II shows of its block: the earlier II lines of it, its own IE lines, and those of its first II
+-- what an II shows of its block: the earlier II lines of it, its own IE lines where it joins the block, and those of its first II
 pub record Blocked (facts : Facts) (line block own first : Text) (v : Seen) : Type 0 where
   pub head-is : v .head ≡ recOf line
   pub inb-is : v .in-block ≡ facts .inb
   pub joined-is : v .not-first ≡ facts .joined
   pub block-is : v .block ≡ reverse (those (isKind II) (recs block))
-  pub own-is : v .own ≡ recs own
+  pub own-is : facts .joined ≡ true → v .own ≡ recs own
   pub first-is : v .first ≡ reverse (recs first)
   pub repeated-is : v .repeated ≡ facts .repeated
   pub live-is : v .live ≡ facts .live

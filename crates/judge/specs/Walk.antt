@@ -117,9 +117,9 @@ pub record OwnIs (file : Text) (from r : ℕ) : Type 0 where
   pub own-from : from ≤ r
   pub own-in : r ≤ length file
 
--- of a line of kind k: those of an II end at r
-pub record OwnEnd (file : Text) (k from r : ℕ) : Type 0 where
-  pub ii-own : k ≡ II → front (isKind IE) (recs (drop from file)) ≡ recs (part file from r)
+-- those of an II that joins a block end at r
+pub record OwnEnd (file : Text) (joined : Bool) (from r : ℕ) : Type 0 where
+  pub joined-own : joined ≡ true → front (isKind IE) (recs (drop from file)) ≡ recs (part file from r)
   pub end-from : from ≤ r
   pub end-in : r ≤ length file
 

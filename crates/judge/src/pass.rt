@@ -37,16 +37,14 @@ ghost use Rattle.judge.specs.Fields.{Looks, Told};
 ghost use Rattle.judge.specs.Walk.{partOf, dayBy, Holds, BlockIs, OwnEnd, Ready, PartsIn, Serves, TurnIs, startState, headAt, span, seenWith};
 ghost use Rattle.judge.specs.Judged.{findingsBy, judgedOf, judgedArea};
 
-// Where the IE lines of an II end that start at a position; the position itself for a line of another kind.
-fn own_end(file: &[u8], k: u8, from: usize) -> usize
+// Where the IE lines of an II that joins a block end, which start at a position; the position itself for any other line, of which nothing is
+// asked.
+fn own_end(file: &[u8], joined: bool, from: usize) -> usize
     requires { ⌜ from ≤ length (now file) ⌝ }
     requires { ⌜ (from < length (now file) → whole (take from (now file)) ≡ true) ⌝ }
-    ensures { λ r. ⌜ OwnEnd (now (file .entry)) k from r ⌝ }
+    ensures { λ r. ⌜ OwnEnd (now (file .entry)) joined from r ⌝ }
 {
-    if k == lines::II {
-        return ie_end(file, from);
-    }
-    from
+    if joined { ie_end(file, from) } else { from }
 }
 
 // Every field of the line from at to end, the others being told where they stand in the file.
@@ -132,7 +130,7 @@ fn judge_line(
     let end = l.end;
     let next = l.next;
     let head = head_at(st, k, Span { start: at, end });
-    let own = own_end(file, k, next);
+    let own = own_end(file, facts.joined, next);
     judge_parts(
         file,
         at,

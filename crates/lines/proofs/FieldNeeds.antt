@@ -39,7 +39,7 @@ module _ (t : Text) (i n x : ℕ) (inv : x ≡ n + length (fieldsOf (drop i t)))
 
 pub ruleset for-count-fields = (needs, count-holds, count-pipe, count-on, count-end)
 
--- field_start: the start x, from a position i with f fields left; a turn leaves g
+-- field_start: the start x, from a position i with f fields left
 pub start-zero : (t : Text) → fieldsLen 0 t ≡ 0
 unfolding fieldsLen
 start-zero [] = refl
@@ -53,22 +53,32 @@ start-cons (suc f) b t n = rw sub-one
 pub start-holds : (t : Text) (f : ℕ) → fieldsLen f t ≡ 0 + fieldsLen f t
 start-holds t f = simp zero-add
 
-module _ (t : Text) (i f x : ℕ) (inv : x ≡ i + fieldsLen f (drop i t)) where
-  pub start-done : f ≡ 0 → i ≡ x
-  start-done e = rw (inv, e, start-zero, add-zero)
+pub start-none : (t : Text) (f : ℕ) → f ≡ 0 → 0 ≡ fieldsLen f t
+start-none t f e = rw (e, start-zero)
 
+module _ (t : Text) (i f x : ℕ) (o : 1 ≤ f) (inv : x ≡ i + fieldsLen f (drop i t)) where
   pub start-end : length t ≤ i → i ≡ x
   unfolding fieldsLen
   start-end h = rw inv (simp (drop-past t i h, add-zero))
 
-  module _ (g : ℕ) (h : i < length t) (n : f ≡ 0 → ⊥) where
-    pub start-pipe : getD t i 0 ≡ pipe → g ≡ f - 1 → x ≡ i + 1 + fieldsLen g (drop (i + 1) t)
-    start-pipe e k = rw inv (simp (k, drop-here t i h, start-cons, eq-eqb _ _ e) (omega arith))
+  given : f ≡ 0 → ⊥
+  given e = omega arith
 
-    pub start-on : (getD t i 0 ≡ pipe → ⊥) → g ≡ f → x ≡ i + 1 + fieldsLen g (drop (i + 1) t)
-    start-on e k = rw inv (simp (k, drop-here t i h, start-cons, ne-eqb _ _ e) (omega arith))
+  module _ (h : i < length t) where
+    module _ (e : getD t i 0 ≡ pipe) where
+      over-pipe : x ≡ i + 1 + fieldsLen (f - 1) (drop (i + 1) t)
+      over-pipe = rw (inv, drop-here t i h, start-cons f (getD t i 0) (drop (i + 1) t) given, eq-eqb _ _ e) (omega arith)
 
-pub ruleset for-field-start = (needs, start-holds, start-done, start-end, start-pipe, start-on)
+      pub start-last : f ≡ 1 → i + 1 ≡ x
+      start-last k = rw (over-pipe, k, start-zero, add-zero)
+
+      pub start-pipe : (f ≡ 1 → ⊥) → x ≡ i + 1 + fieldsLen (f - 1) (drop (i + 1) t)
+      start-pipe n = over-pipe
+
+    pub start-on : (getD t i 0 ≡ pipe → ⊥) → x ≡ i + 1 + fieldsLen f (drop (i + 1) t)
+    start-on e = rw (inv, drop-here t i h, start-cons f (getD t i 0) (drop (i + 1) t) given, ne-eqb _ _ e) (omega arith)
+
+pub ruleset for-field-start = (needs, start-holds, start-none, start-end, start-last, start-pipe, start-on)
 
 -- pipe_from: the place x of the pipe, from a position i
 module _ (t : Text) (i x : ℕ) (inv : x ≡ i + pipeLen (drop i t)) where

@@ -27,14 +27,19 @@ pub fn count_fields(text: &[u8]) -> usize
 pub fn field_start(text: &[u8], f: usize) -> usize
     ensures { λ r. ⌜ r ≡ fieldsLen f (now (text .entry)) ⌝ }
 {
+    if f == 0 {
+        return 0;
+    }
     let mut i = 0;
     let mut left = f;
     while i < text.len() {
-        if left == 0 {
-            return i;
-        }
         if text[i] == b'|' {
+            i += 1;
+            if left == 1 {
+                return i;
+            }
             left -= 1;
+            continue;
         }
         i += 1;
     }

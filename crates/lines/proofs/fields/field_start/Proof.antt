@@ -1,8 +1,5 @@
--- `lines::fields::field_start` meets its contract.
--- Assumes nothing.
 use Rattle.lines.proofs.FieldNeeds.{for-field-start}
-use mathlib.Core.Logic.{⊎-elim}
-use Prim.Native.Nat.{_-_, _+_}
+use Prim.Native.Nat.{_-_, _≤_, _+_}
 use mathlib.Core.Path.{_≡_}
 use lib.ListN.{length, drop}
 use Rattle.lines.specs.Lines.{fieldsLen}
@@ -10,7 +7,7 @@ use Rattle.lines.proofs.fields.field_start.Statement.{statement}
 use Rattle.lines.proofs.fields.field_start.Tie as tie
 
 abbrev Inv-loop : tie.InvT-loop
-Inv-loop text f i₀ left₀ i left = fieldsLen f text ≡ i + fieldsLen left (drop i text)
+Inv-loop text f i₀ left₀ i left = (1 ≤ left) × (fieldsLen f text ≡ i + fieldsLen left (drop i text))
 
 abbrev μ-loop : tie.MeasureT-loop
 μ-loop text f i₀ left₀ i left = length text - i
@@ -27,5 +24,9 @@ field-start-spec =
     (λ c. search for-field-start)
     (λ c. search for-field-start)
     (λ c. search for-field-start)
-    (λ c. ⊎-elim (λ w. search for-field-start) (λ w. search for-field-start) (c .if2 .came))
+    (λ c. search for-field-start)
+    (λ c. search for-field-start)
+    (λ c. search for-field-start)
+    (λ c. search for-field-start)
+    (λ c. search for-field-start)
     (λ c. search for-field-start))
