@@ -1,7 +1,9 @@
 pub mod Ranks
 pub mod Order
 pub mod EventLaws
+pub mod RankLaws
 pub mod MergeLaws
+pub mod RankedLaws
 pub mod SortLaws
 pub mod SortedLaws
 pub mod OneAnswer
