@@ -1,37 +1,39 @@
--- What each need of the functions that settle a file without findings asks.
+-- What each need of the function that settles a file without findings asks.
 -- Assumes nothing.
-use mathlib.Core.Path.{_≡_, refl, sym, ap, ap₂, _∙_, subst}
-use mathlib.Core.Bool.{Bool, true}
+use mathlib.Core.Path.{_≡_, refl, sym, ap, _∙_, subst}
+use mathlib.Core.Bool.{Bool, true, false, cond}
 use mathlib.Core.List.{List, [], _∷_}
 use mathlib.Core.Logic.{inl, inr}
-use mir.Syntax.{w64}
-use mir.Val.{Fits}
-use Prim.Native.Nat.{ℕ, _+_, _-_, _/_, _≤_, _<_}
+use Prim.Native.Nat.{ℕ, _+_, _≤_}
 use native.Mathlib.Omega.{arith}
 use borrow.Author.Needs.{needs}
-use borrow.Author.Tests.{lt-ltb, le-ltb}
-use lib.Dec.{T}
+use borrow.Author.Tests.{le-leb, leb-true, leb-false, lt-ltb, le-ltb}
+use lib.Dec.{T, leb}
 use lib.ListN.{length, take, length-map}
 use lib.Seq.{length-take-le}
 use Rattle.house.specs.Text.{Text, count}
 use Rattle.house.specs.Members.{In}
-use Rattle.house.proofs.Facts.{of-true, is-true}
-use Rattle.lines.specs.Records.{IN, isKind, recs}
+use Rattle.house.proofs.Facts.{is-true}
+use Rattle.house.proofs.Small.{clash}
 use Rattle.events.specs.Events.{eventAt, eventsAt}
-use Rattle.ledger.specs.Ledger.{Event, slotsIn, ledgerOk, liveIn, isAmong, ledgerWith, isFit, updated}
+use Rattle.ledger.specs.Ledger.{Event, slotsIn, liveIn, isAmong, ledgerWith, isFit, updated}
 use Rattle.ledger.proofs.EventLaws.{among-in, in-among}
-use Rattle.ledger.proofs.FoundLaws.{live-length, live-fits, ok-order}
-use Rattle.ledger.proofs.HeldLaws.{well-formed}
 use Rattle.ledger.proofs.UpdateLaws.{fit-numbers, updated-fit}
 use Rattle.rules.specs.Places.{placesIn}
 use Rattle.rules.specs.Blocks.{eventsOf, adds, changes, deletes}
-use Rattle.index.specs.Firsts.{indexOf, over, partOf}
-use Rattle.index.proofs.OverLaws.{over-taken, length-over, part-few}
+use Rattle.index.specs.Firsts.{indexOf, partOf}
 use Rattle.index.proofs.TypeLaws.{part-count, part-among, part-ascends, part-after}
-use Rattle.answers.specs.declared.settling.Counts.{Counts}
+use Rattle.settle.specs.declared.Counts.{Counts}
+use Rattle.settle.specs.declared.Settled.{Settled}
+use Rattle.settle.specs.declared.Settled.the-variants.{Done, NoRoom}
+use Rattle.settle.specs.Settled.{countsOf, hasRoom, settledOf, settledLedger}
 use Rattle.answers.specs.declared.Answer.the-variants.{Accepted, Full}
 use Rattle.answers.specs.Answers.{lent, left, added, changed, deleted, notImmunized, isFull, ledgerAfter, accepted, roomed}
-use Rattle.answers.specs.Inside.{counts, countsOf, Settles, HasRoom}
+use Rattle.answers.specs.Inside.{Settles, Settling}
+
+-- what is live and added has room in the slots and those of the deleted
+abbrev Fit : Text → Text → Type 0
+Fit f l = length (liveIn l) + length (eventsOf adds (placesIn f)) ≤ slotsIn l + length (eventsOf deletes (placesIn f))
 
 count-all : (p : Event → Bool) (es : List Event) → ((e : Event) → In e es → p e ≡ true) → count p es ≡ length es
 count-all p [] h = refl
@@ -57,94 +59,67 @@ module _ (f l : Text) (s : Settles f l) where
       (subst T (part-among f 68 e) (in-among (eventsAt f (partOf f 68 (indexOf f))) e m))))))
       ∙ length-map (partOf f 68 (indexOf f)) (eventAt f) ∙ part-count f 68
 
-  is-fit : HasRoom f l → isFit l f gs ds ≡ true
+  is-fit : Fit f l → isFit l f gs ds ≡ true
   unfolding gs ds
   is-fit r =
       fit-numbers l f (partOf f 65 (indexOf f)) (partOf f 68 (indexOf f)) (s .ok) (part-ascends f 65 (s .adds-once)) (part-ascends f 68 (s .deletes-once))
-      (omega (arith, r .fits, part-count f 65, all-live))
+      (omega (arith, r, part-count f 65, all-live))
 
-  updated-is : HasRoom f l → updated l f gs ds ≡ ledgerAfter (lent 0 f [] l [])
+  updated-is : Fit f l → updated l f gs ds ≡ ledgerAfter (lent 0 f [] l [])
   unfolding gs ds ledgerAfter added deleted
   updated-is r = updated-fit l f (partOf f 65 (indexOf f)) (partOf f 68 (indexOf f)) (is-fit r) ∙ ap (ledgerWith (length l)) (part-after f (liveIn l) 65 68)
-
--- renew_by
-module _ (f : Text) (ix ix′ : List ℕ) (a : ℕ) (ex : ix′ ≡ over (partOf f 65 ix) ix) (ea : a ≡ length (partOf f 65 ix)) where
-  pub renew-adds : a ≤ length ix′
-  renew-adds = omega (arith, part-few f 65 ix, ap length ex, length-over (partOf f 65 ix) ix)
-
-  pub renewed : (l l′ : Text) (ps : List ℕ) → l′ ≡ updated l f (take (a - 0) ix′) ps → ix ≡ indexOf f → ps ≡ partOf f 68 (indexOf f) → Settles f l → HasRoom f l → l′ ≡ ledgerAfter (lent 0 f [] l [])
-  unfolding gs ds
-  renewed l l′ ps e ei ep s h =
-      let p : take (a - 0) ix′ ≡ partOf f 65 (indexOf f) = ap (take (a - 0)) ex ∙ over-taken (partOf f 65 ix) ix (a - 0) (omega arith) (part-few f 65 ix) ∙ ap (partOf f 65) ei in
-      e ∙ ap₂ (updated l f) p ep ∙ updated-is f l s h
-
-pub ruleset for-renew-by = (needs, renew-adds, renewed)
-
--- renew_in
-module _ (f : Text) (ix out out′ : List ℕ) (d : ℕ) (eo : out′ ≡ over (partOf f 68 ix) out) (ed : d ≡ length (partOf f 68 ix)) (room : length ix ≤ length out) where
-  pub renew-deletes : d ≤ length out′
-  renew-deletes = omega (arith, part-few f 68 ix, ap length eo, length-over (partOf f 68 ix) out)
-
-  pub deletes-are : ix ≡ indexOf f → take (d - 0) out′ ≡ partOf f 68 (indexOf f)
-  deletes-are ei = ap (take (d - 0)) eo ∙ over-taken (partOf f 68 ix) out (d - 0) (omega arith) (omega (arith, part-few f 68 ix)) ∙ ap (partOf f 68) ei
-
-pub ruleset for-renew-in = (needs, renew-deletes, deletes-are)
-
--- count_types
-module _ (f : Text) (ix : List ℕ) (ei : ix ≡ indexOf f) where
-  counted : (type n : ℕ) → n ≡ length (partOf f type ix) → length (eventsOf (type ∷ []) (placesIn f)) ≡ n
-  counted type n e = sym (e ∙ ap (λ (ps : List ℕ). length (partOf f type ps)) ei ∙ part-count f type)
-
-  pub counts-are : (a c d : ℕ) → a ≡ length (partOf f 65 ix) → c ≡ length (partOf f 67 ix) → d ≡ length (partOf f 68 ix) → counts a c d ≡ countsOf f
-  unfolding countsOf
-  counts-are a c d ea ec ed = rw (counted 65 a ea, counted 67 c ec, counted 68 d ed)
-
-pub counts-few : (f : Text) (ix : List ℕ) (type n : ℕ) → n ≡ length (partOf f type ix) → length ix ≤ 96154 → n ≤ 96154
-counts-few f ix type n e h = omega (arith, part-few f type ix)
-
-pub ruleset for-count-types = (needs, counts-are, counts-few)
-
--- settle
-module _ (f l : Text) (s : Settles f l) where
-  slots-few : length l / 38 ≤ 100000
-  unfolding slotsIn
-  slots-few = well-formed l (of-true (ledgerOk l) (s .ok)) .most
-
-  live-few : length (liveIn l) ≤ 100000
-  live-few = omega (arith, live-length l (ok-order l (s .ok)), live-fits l (ok-order l (s .ok)), slots-few)
-
-  pub slots-fit : (d : ℕ) → d ≤ 96154 → Fits w64 (length l / 38 + d)
-  slots-fit d h = record { fits = omega (arith, slots-few) }
-
-  pub live-fit : (live a : ℕ) → live ≡ length (liveIn l) → a ≤ 96154 → Fits w64 (live + a)
-  live-fit live a ev h = record { fits = omega (arith, live-few) }
-
-module _ (f l : Text) (n : Counts) (live : ℕ) (en : n ≡ countsOf f) (ev : live ≡ length (liveIn l)) where
-  pub settle-full : length l / 38 + n .deleted < live + n .added → left Full l [] ≡ roomed (lent 0 f [] l [])
-  unfolding roomed isFull added deleted slotsIn countsOf
-  settle-full h =
-      let a : n .added ≡ length (eventsOf adds (placesIn f)) = ap (λ (k : Counts). k .added) en in
-      let d : n .deleted ≡ length (eventsOf deletes (placesIn f)) = ap (λ (k : Counts). k .deleted) en in
-      rw (← a, ← d, ← ev, lt-ltb (length l / 38 + n .deleted) (live + n .added) h)
-
-  module _ (h : live + n .added ≤ length l / 38 + n .deleted) where
-    pub settle-room : HasRoom f l
-    unfolding slotsIn countsOf
-    settle-room = record { fits = omega (arith, ap (λ (k : Counts). k .added) en, ap (λ (k : Counts). k .deleted) en) }
-
-    pub settle-done : (m : ℕ) (l′ : Text) → m ≡ count (isKind IN) (recs f) → l′ ≡ ledgerAfter (lent 0 f [] l []) → left (Accepted (n .added) (n .changed) (n .deleted) m) l′ [] ≡ roomed (lent 0 f [] l [])
-    unfolding roomed isFull accepted added changed deleted notImmunized slotsIn countsOf
-    settle-done m l′ i k =
-        let a : n .added ≡ length (eventsOf adds (placesIn f)) = ap (λ (k : Counts). k .added) en in
-        let c : n .changed ≡ length (eventsOf changes (placesIn f)) = ap (λ (k : Counts). k .changed) en in
-        let d : n .deleted ≡ length (eventsOf deletes (placesIn f)) = ap (λ (k : Counts). k .deleted) en in
-        rw (← a, ← d, ← ev, le-ltb (length l / 38 + n .deleted) (live + n .added) h)
-        (rw (← c, ← i, ← k))
-
-pub ruleset for-settle = (needs, slots-fit, live-fit, settle-full, settle-room, settle-done)
 
 -- settle_front
 pub front-size : (n : ℕ) (room : List ℕ) → n ≤ length room → n ≡ length (take n room)
 front-size n room h = sym (length-take-le n room h)
 
-pub ruleset for-settle-front = (needs, front-size)
+module _ (f l l′ : Text) (live m : ℕ) (ix : List ℕ) (s : Settled) (es : s ≡ settledOf f l live ix) (el : l′ ≡ settledLedger f l live ix) (g : Settling f l live ix m) where
+  part-is : (type : ℕ) → length (partOf f type ix) ≡ length (eventsOf (type ∷ []) (placesIn f))
+  part-is type = ap (λ (ps : List ℕ). length (partOf f type ps)) (g .index-is) ∙ part-count f type
+
+  room-is : hasRoom f l live ix ≡ leb (length (liveIn l) + length (eventsOf adds (placesIn f))) (slotsIn l + length (eventsOf deletes (placesIn f)))
+  unfolding hasRoom
+  room-is = rw (le-leb (length ix) 96154 (g .few), g .live-is, part-is 65, part-is 68)
+
+  told : (b : Bool) (n : Counts) → cond b (Done (countsOf f ix)) NoRoom ≡ Done n → (b ≡ true) × (countsOf f ix ≡ n)
+  told true n e = (refl, cc)
+  told false n e = clash (cc)
+
+  told-none : (b : Bool) → cond b (Done (countsOf f ix)) NoRoom ≡ NoRoom → b ≡ false
+  told-none true e = clash (cc)
+  told-none false e = refl
+
+  pub settled-full : s ≡ NoRoom → left Full l′ [] ≡ roomed (lent 0 f [] l [])
+  unfolding settledOf settledLedger roomed isFull added deleted
+  settled-full z =
+      let h : hasRoom f l live ix ≡ false = told-none (hasRoom f l live ix) (sym es ∙ z) in
+      let e : l′ ≡ l = el ∙ rw h in
+      let over = leb-false (length (liveIn l) + length (eventsOf adds (placesIn f))) (slotsIn l + length (eventsOf deletes (placesIn f))) (sym room-is ∙ h) in
+      rw (e, lt-ltb (slotsIn l + length (eventsOf deletes (placesIn f))) (length (liveIn l) + length (eventsOf adds (placesIn f))) over)
+
+  module _ (n : Counts) (z : s ≡ Done n) where
+    there : (hasRoom f l live ix ≡ true) × (countsOf f ix ≡ n)
+    unfolding settledOf
+    there = told (hasRoom f l live ix) n (sym es ∙ z)
+
+    fits : Fit f l
+    fits = leb-true (length (liveIn l) + length (eventsOf adds (placesIn f))) (slotsIn l + length (eventsOf deletes (placesIn f))) (sym room-is ∙ there .0)
+
+    counts-are : (n .added ≡ length (eventsOf adds (placesIn f))) × (n .changed ≡ length (eventsOf changes (placesIn f))) × (n .deleted ≡ length (eventsOf deletes (placesIn f)))
+    unfolding countsOf
+    counts-are =
+        let e = sym (there .1) in
+        (ap (λ (k : Counts). k .added) e ∙ part-is 65, ap (λ (k : Counts). k .changed) e ∙ part-is 67, ap (λ (k : Counts). k .deleted) e ∙ part-is 68)
+
+    ledger-is : l′ ≡ ledgerAfter (lent 0 f [] l [])
+    unfolding settledLedger gs ds
+    ledger-is =
+        el ∙ rw (there .0) (ap (λ (ps : List ℕ). updated l f (partOf f 65 ps) (partOf f 68 ps)) (g .index-is) ∙ updated-is f l (g .settles) fits)
+
+    pub settled-done : left (Accepted (n .added) (n .changed) (n .deleted) m) l′ [] ≡ roomed (lent 0 f [] l [])
+    unfolding roomed isFull accepted added changed deleted notImmunized
+    settled-done =
+        rw (le-ltb (slotsIn l + length (eventsOf deletes (placesIn f))) (length (liveIn l) + length (eventsOf adds (placesIn f))) fits)
+        (rw (counts-are .0, counts-are .1, counts-are .2, g .declined-is, ledger-is))
+
+pub ruleset for-settle-front = (needs, front-size, settled-full, settled-done)

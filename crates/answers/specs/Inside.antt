@@ -1,6 +1,6 @@
 -- Working definitions: the answer from one of its steps on, and what is known there. No public contract rests on this page.
 -- Assumes nothing.
-use Prim.Native.Nat.{ℕ, _+_, _≤_}
+use Prim.Native.Nat.{ℕ, _≤_}
 use mathlib.Core.Path.{_≡_}
 use mathlib.Core.Bool.{true, not, cond}
 use mathlib.Core.List.{List}
@@ -11,12 +11,11 @@ use Rattle.lines.specs.Records.{IN, isKind, recs}
 use Rattle.lines.specs.Shape.{shapeOf}
 use Rattle.book.specs.declared.Sections.{Sections}
 use Rattle.book.specs.Book.{Sound}
-use Rattle.ledger.specs.Ledger.{Event, slotsIn, ledgerOk, liveIn}
+use Rattle.ledger.specs.Ledger.{Event, ledgerOk, liveIn}
 use Rattle.rules.specs.Places.{placesIn}
-use Rattle.rules.specs.Blocks.{eventsOf, adds, changes, deletes}
+use Rattle.rules.specs.Blocks.{eventsOf, adds, deletes}
 use Rattle.index.specs.Firsts.{firstsOf, indexOf}
 use Rattle.answers.specs.declared.steps.Tally.{Tally}
-use Rattle.answers.specs.declared.settling.Counts.{Counts}
 use Rattle.answers.specs.declared.Answer.the-variants.{Ledger}
 use Rattle.answers.specs.Answers.{Lent, Outcome, fileMost, findings, notImmunized, refused, shaped}
 
@@ -42,18 +41,6 @@ tally blocks found declined = record { blocks = blocks; findings = found; declin
 unfoldable pub tallyOf : Lent → Tally
 tallyOf x = tally (length (firstsOf (x .file))) (length (findings x)) (notImmunized x)
 
-abbrev pub counts : ℕ → ℕ → ℕ → Counts
-counts a c d = record { added = a; changed = c; deleted = d }
-
--- how many blocks of the file add, change and delete
-unfoldable pub countsOf : Text → Counts
-countsOf file =
-    record {
-      added = length (eventsOf adds (placesIn file));
-      changed = length (eventsOf changes (placesIn file));
-      deleted = length (eventsOf deletes (placesIn file));
-    }
-
 -- the ledger is well formed, and the blocks of the file name events once, those that it deletes being live
 pub record Settles (file ledger : Text) : Type 0 where
   pub ok : ledgerOk ledger ≡ true
@@ -73,7 +60,3 @@ pub record Settling (file ledger : Text) (live : ℕ) (index : List ℕ) (declin
 pub record Judges (file ledger : Text) (live : ℕ) (t : Tally) (room : List ℕ) : Type 0 where
   pub part : t .blocks ≤ length room
   pub settling : t .findings ≡ 0 → Settling file ledger live (take (t .blocks) room) (t .declined)
-
--- what is live and added has room in the slots and those of the deleted
-pub record HasRoom (file ledger : Text) : Type 0 where
-  pub fits : length (liveIn ledger) + length (eventsOf adds (placesIn file)) ≤ slotsIn ledger + length (eventsOf deletes (placesIn file))

@@ -1,5 +1,4 @@
 // The check of a submission, in the order of its answers: one call over file, code book, ledger, findings area and today's date.
-mod settling;
 mod steps;
 
 pub use steps::check;

@@ -1,19 +1,20 @@
 // The steps of the check, in the order of document 01's answers: each function answers from one of them on.
 use crate::Answer;
-use crate::settling::settle_front;
 use book::Sections;
 use house::Date;
 use judge::Judged;
 use lines::Shape;
+use settle::Settled;
 ghost use mathlib.Core.Path.{_≡_};
+ghost use mathlib.Core.List.{[]};
 ghost use Prim.Native.Nat.{_≤_};
-ghost use lib.ListN.{length};
+ghost use lib.ListN.{length, take};
 ghost use Rattle.lines.specs.declared.Shape.the-variants.{Right};
 ghost use Rattle.lines.specs.Shape.{shapeOf};
 ghost use Rattle.book.specs.Book.{Sound};
 ghost use Rattle.rules.specs.Findings.{areaAfter};
-ghost use Rattle.answers.specs.Answers.{lent, left, findings, judged, Gives};
-ghost use Rattle.answers.specs.Inside.{afterBook, afterLedger, tallyOf, Ready, Judges};
+ghost use Rattle.answers.specs.Answers.{lent, left, findings, roomed, judged, Gives};
+ghost use Rattle.answers.specs.Inside.{afterBook, afterLedger, tallyOf, Ready, Settling, Judges};
 
 // How many blocks, findings and IN records there are.
 struct Tally {
@@ -56,6 +57,31 @@ fn judge_all(
             findings: 0,
             declined: 0,
         },
+    }
+}
+
+// From FULL on, of a file without findings, by the index of its blocks at the front of a room. What the room holds is lost.
+fn settle_front(
+    file: &[u8],
+    ledger: &mut [u8],
+    live: usize,
+    room: &mut [u32],
+    blocks: usize,
+    declined: usize,
+) -> Answer
+    requires { ⌜ Settling (now file) (now ledger) live (take blocks (now room)) declined ⌝ }
+    requires { ⌜ blocks ≤ length (now room) ⌝ }
+    ensures { λ r. ⌜ left r (now (ledger .exit)) [] ≡ roomed (lent 0 (now (file .entry)) [] (now (ledger .entry)) []) ⌝ }
+{
+    let s = settle::settle(file, ledger, live, &mut room[..blocks]);
+    match s {
+        Settled::Done(n) => Answer::Accepted {
+            added: n.added,
+            changed: n.changed,
+            deleted: n.deleted,
+            not_immunized: declined,
+        },
+        Settled::NoRoom => Answer::Full,
     }
 }
 

@@ -98,7 +98,7 @@ pub own-joined : (file : Text) (joined : Bool) (from r : ℕ) → OwnIs file fro
 own-joined file joined from r o = record { joined-own = λ z. o .own-is; end-from = o .own-from; end-in = o .own-in }
 
 pub own-none : (file : Text) (joined : Bool) (from : ℕ) → joined ≡ false → from ≤ length file → OwnEnd file joined from from
-own-none file joined from n h = record { joined-own = λ z. clash (sym n ∙ z); end-from = omega arith; end-in = h }
+own-none file joined from n h = record { joined-own = λ z. clash (cc); end-from = omega arith; end-in = h }
 
 pub ruleset for-own-end = (needs, own-joined, own-none)
 

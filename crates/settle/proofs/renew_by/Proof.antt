@@ -1,8 +1,8 @@
--- `answers::settling::renew_by` meets its contract.
+-- `settle::renew_by` meets its contract.
 -- Assumes nothing.
-use Rattle.answers.proofs.SettleNeeds.{for-renew-by}
-use Rattle.answers.proofs.settling.renew_by.Statement.{statement}
-use Rattle.answers.proofs.settling.renew_by.Tie as tie
+use Rattle.settle.proofs.SettleNeeds.{for-renew-by}
+use Rattle.settle.proofs.renew_by.Statement.{statement}
+use Rattle.settle.proofs.renew_by.Tie as tie
 
 pub renew-by-spec : {M : Type 1} → statement M
 renew-by-spec =

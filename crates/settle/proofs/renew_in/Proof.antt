@@ -1,8 +1,8 @@
--- `answers::settling::renew_in` meets its contract.
+-- `settle::renew_in` meets its contract.
 -- Assumes nothing.
-use Rattle.answers.proofs.SettleNeeds.{for-renew-in}
-use Rattle.answers.proofs.settling.renew_in.Statement.{statement}
-use Rattle.answers.proofs.settling.renew_in.Tie as tie
+use Rattle.settle.proofs.SettleNeeds.{for-renew-in}
+use Rattle.settle.proofs.renew_in.Statement.{statement}
+use Rattle.settle.proofs.renew_in.Tie as tie
 
 pub renew-in-spec : {M : Type 1} → statement M
 renew-in-spec =
@@ -13,7 +13,7 @@ renew-in-spec =
     (λ c. search for-renew-in)
     (λ c. search for-renew-in)
     (λ c. search for-renew-in)
-    (λ c κs. (search for-renew-in, (search for-renew-in, (search for-renew-in, search for-renew-in))))
+    (λ c. search for-renew-in)
     (λ c. search for-renew-in)
     (λ c. search for-renew-in)
     (λ c. search for-renew-in)

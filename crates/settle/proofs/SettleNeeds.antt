@@ -1,0 +1,126 @@
+-- What each need of the functions that settle the blocks of an index asks.
+-- Assumes nothing.
+use mathlib.Core.Path.{_≡_, refl, sym, ap, _∙_}
+use mathlib.Core.Bool.{Bool, true, false, cond}
+use mathlib.Core.List.{List}
+use Prim.Native.Nat.{ℕ, _+_, _-_, _/_, _≤_, _<_}
+use native.Mathlib.Omega.{arith}
+use borrow.Author.Needs.{needs}
+use borrow.Author.Tests.{le-leb, lt-leb, leb-true}
+use lib.Dec.{leb}
+use lib.ListN.{length, take}
+use Rattle.house.specs.Text.{Text}
+use Rattle.house.proofs.Small.{both, clash}
+use Rattle.ledger.specs.Ledger.{slotsIn, updated}
+use Rattle.index.specs.Firsts.{over, partOf}
+use Rattle.index.proofs.OverLaws.{over-taken, length-over, part-few}
+use Rattle.settle.specs.declared.Counts.{Counts}
+use Rattle.settle.specs.declared.Settled.{Settled}
+use Rattle.settle.specs.declared.Settled.the-variants.{Done, NoRoom}
+use Rattle.settle.specs.Settled.{countsOf, hasRoom, settledOf, settledLedger, settledIndex}
+
+-- renew_by
+module _ (f : Text) (ix ix′ : List ℕ) (a : ℕ) (ex : ix′ ≡ over (partOf f 65 ix) ix) (ea : a ≡ length (partOf f 65 ix)) where
+  pub renew-adds : a ≤ length ix′
+  renew-adds = omega (arith, part-few f 65 ix, ap length ex, length-over (partOf f 65 ix) ix)
+
+  pub renewed : (l l′ : Text) (ps : List ℕ) → l′ ≡ updated l f (take (a - 0) ix′) ps → l′ ≡ updated l f (partOf f 65 ix) ps
+  renewed l l′ ps e =
+      let p : take (a - 0) ix′ ≡ partOf f 65 ix = ap (take (a - 0)) ex ∙ over-taken (partOf f 65 ix) ix (a - 0) (omega arith) (part-few f 65 ix) in
+      e ∙ ap (λ (gs : List ℕ). updated l f gs ps) p
+
+pub ruleset for-renew-by = (needs, renew-adds, renewed)
+
+-- renew_in
+module _ (f : Text) (ix out out′ : List ℕ) (d : ℕ) (eo : out′ ≡ over (partOf f 68 ix) out) (ed : d ≡ length (partOf f 68 ix)) (room : length ix ≤ length out) where
+  pub renew-deletes : d ≤ length out′
+  renew-deletes = omega (arith, part-few f 68 ix, ap length eo, length-over (partOf f 68 ix) out)
+
+  pub renewed-in : (l l′ : Text) → l′ ≡ updated l f (partOf f 65 ix) (take (d - 0) out′) → l′ ≡ updated l f (partOf f 65 ix) (partOf f 68 ix)
+  renewed-in l l′ e =
+      let p : take (d - 0) out′ ≡ partOf f 68 ix = ap (take (d - 0)) eo ∙ over-taken (partOf f 68 ix) out (d - 0) (omega arith) (omega (arith, part-few f 68 ix)) in
+      e ∙ ap (updated l f (partOf f 65 ix)) p
+
+pub ruleset for-renew-in = (needs, renew-deletes, renewed-in)
+
+-- count_types
+pub counts-are : (f : Text) (ix : List ℕ) (a c d : ℕ) → a ≡ length (partOf f 65 ix) → c ≡ length (partOf f 67 ix) → d ≡ length (partOf f 68 ix) → record { added = a; changed = c; deleted = d } ≡ countsOf f ix
+unfolding countsOf
+counts-are f ix a c d ea ec ed = rw (ea, ec, ed)
+
+pub counts-few : (f : Text) (ix : List ℕ) (type n : ℕ) → n ≡ length (partOf f type ix) → length ix ≤ 96154 → n ≤ 96154
+counts-few f ix type n e h = omega (arith, part-few f type ix)
+
+pub ruleset for-count-types = (needs, counts-are, counts-few)
+
+-- room_for
+module _ (f l : Text) (live : ℕ) (ix : List ℕ) where
+  pub many-none : 96154 < length ix → NoRoom ≡ settledOf f l live ix
+  unfolding settledOf hasRoom
+  many-none h = rw (lt-leb (length ix) 96154 h)
+
+  module _ (n : Counts) (en : n ≡ countsOf f ix) (few : length ix ≤ 96154) where
+    adds-are : n .added ≡ length (partOf f 65 ix)
+    unfolding countsOf
+    adds-are = ap (λ (k : Counts). k .added) en
+
+    deletes-are : n .deleted ≡ length (partOf f 68 ix)
+    unfolding countsOf
+    deletes-are = ap (λ (k : Counts). k .deleted) en
+
+    pub full-none : length l / 38 + n .deleted < live + n .added → NoRoom ≡ settledOf f l live ix
+    unfolding settledOf hasRoom slotsIn
+    full-none h = rw (le-leb (length ix) 96154 few, ← adds-are, ← deletes-are, lt-leb (live + n .added) (length l / 38 + n .deleted) h)
+
+    pub over-none : length l / 38 + n .deleted < live → NoRoom ≡ settledOf f l live ix
+    over-none h = full-none (omega arith)
+
+    pub fits-done : live + n .added ≤ length l / 38 + n .deleted → Done n ≡ settledOf f l live ix
+    unfolding settledOf hasRoom slotsIn
+    fits-done h = rw (le-leb (length ix) 96154 few, ← adds-are, ← deletes-are, le-leb (live + n .added) (length l / 38 + n .deleted) h, en)
+
+pub ruleset for-room-for = (needs, many-none, over-none, full-none, fits-done)
+
+-- settle
+module _ (f l : Text) (live : ℕ) (ix : List ℕ) (s : Settled) (es : s ≡ settledOf f l live ix) where
+  room-if : (n : Counts) → s ≡ Done n → hasRoom f l live ix ≡ true
+  unfolding settledOf
+  room-if n z = go (hasRoom f l live ix) (sym es ∙ z)
+    where
+      go : (b : Bool) → cond b (Done (countsOf f ix)) NoRoom ≡ Done n → b ≡ true
+      go true e = refl
+      go false e = clash (cc)
+
+  none-if : s ≡ NoRoom → hasRoom f l live ix ≡ false
+  unfolding settledOf
+  none-if z = go (hasRoom f l live ix) (sym es ∙ z)
+    where
+      go : (b : Bool) → cond b (Done (countsOf f ix)) NoRoom ≡ NoRoom → b ≡ false
+      go true e = clash (cc)
+      go false e = refl
+
+  pub done-few : (n : Counts) → s ≡ Done n → length ix ≤ 96154
+  unfolding hasRoom
+  done-few n z =
+      leb-true (length ix) 96154 (both (leb (length ix) 96154) (leb (live + length (partOf f 65 ix)) (slotsIn l + length (partOf f 68 ix))) (room-if n z) .0)
+
+  pub done-ledger : (n : Counts) (l′ : Text) → s ≡ Done n → l′ ≡ updated l f (partOf f 65 ix) (partOf f 68 ix) → l′ ≡ settledLedger f l live ix
+  unfolding settledLedger
+  done-ledger n l′ z e = rw (room-if n z) e
+
+  pub done-index : (n : Counts) (ix′ : List ℕ) → s ≡ Done n → ix′ ≡ over (partOf f 65 ix) ix → ix′ ≡ settledIndex f l live ix
+  unfolding settledIndex
+  done-index n ix′ z e = rw (room-if n z) e
+
+  pub none-ledger : s ≡ NoRoom → l ≡ settledLedger f l live ix
+  unfolding settledLedger
+  none-ledger z = rw (none-if z)
+
+  pub none-index : s ≡ NoRoom → ix ≡ settledIndex f l live ix
+  unfolding settledIndex
+  none-index z = rw (none-if z)
+
+  pub as-told : (r : Settled) → s ≡ r → r ≡ settledOf f l live ix
+  as-told r z = sym z ∙ es
+
+pub ruleset for-settle = (needs, done-few, done-ledger, done-index, none-ledger, none-index, as-told)

@@ -1,0 +1,14 @@
+-- `settle::count_types` meets its contract.
+-- Assumes nothing.
+use Rattle.settle.proofs.SettleNeeds.{for-count-types}
+use Rattle.settle.proofs.count_types.Statement.{statement}
+use Rattle.settle.proofs.count_types.Tie as tie
+
+pub count-types-spec : {M : Type 1} → statement M
+count-types-spec =
+    tie.close
+    (tie.spec
+    (λ c. search for-count-types)
+    (λ c. search for-count-types)
+    (λ c. search for-count-types)
+    (λ c. search for-count-types))
