@@ -1,4 +1,4 @@
--- What each need of `lesser`, `greater`, `is_printable`, `pipe_last`, `kind_cause`, `line_cause` and `shape_of` asks.
+-- What each need of `greater`, `is_printable`, `pipe_last`, `kind_cause`, `line_cause` and `shape_of` asks.
 -- Assumes nothing.
 use mathlib.Core.Path.{_≡_, refl, sym, _∙_}
 use mathlib.Core.Bool.{Bool, true, false, not, cond}
@@ -20,16 +20,8 @@ use Rattle.lines.specs.Shape.{follows, printable, pipeLast, cause1, caus
 use Rattle.lines.specs.Inside.{lesserOf, greaterOf, kindCause}
 use Rattle.lines.proofs.LineLaws.{lines-past, lines-on, left-falls, number-on}
 
--- lesser, greater
+-- greater
 module _ (a b : ℕ) where
-  pub lesser-second : b < a → b ≡ lesserOf a b
-  unfolding lesserOf
-  lesser-second h = rw (lt-ltb _ _ h)
-
-  pub lesser-first : a ≤ b → a ≡ lesserOf a b
-  unfolding lesserOf
-  lesser-first h = rw (le-ltb _ _ h)
-
   pub greater-second : a < b → b ≡ greaterOf a b
   unfolding greaterOf
   greater-second h = rw (lt-ltb _ _ h)
@@ -38,7 +30,7 @@ module _ (a b : ℕ) where
   unfolding greaterOf
   greater-first h = rw (le-ltb _ _ h)
 
-pub ruleset for-lesser = (needs, lesser-second, lesser-first, greater-second, greater-first)
+pub ruleset for-greater = (needs, greater-second, greater-first)
 
 -- is_printable: the answer, where the bytes before those of t are no less than l and no greater than h
 abbrev pub printIn : ℕ → ℕ → Text → Bool

@@ -4,7 +4,7 @@ use mathlib.Core.Path.{_≡_, refl, sym, ap, _∙_}
 use mathlib.Core.Bool.{Bool, true, false, cond}
 use mathlib.Core.List.{List, [], _∷_}
 use Prim.Native.Nat.{ℕ, zero, suc, _+_, _≤_, _<_}
-use native.Mathlib.Nat.{add-zero}
+use native.Mathlib.Nat.{zero-add, add-zero}
 use native.Mathlib.Omega.{arith}
 use borrow.Author.Tests.{ltb-true, ltb-false}
 use lib.Dec.{eqb, ltb}
@@ -69,6 +69,19 @@ fields-le (suc f) (b ∷ t) = go (eqb b pipe) (fields-le f t) (fields-le (suc f)
     go false h k = omega arith
 
 -- no more fields than bytes
+-- the fields that end in a text's first n bytes, and those that end behind
+pub fields-split : (n : ℕ) (t : Text) → length (fieldsOf t) ≡ length (fieldsOf (take n t)) + length (fieldsOf (drop n t))
+unfolding fieldsOf
+fields-split zero t = simp zero-add
+fields-split (suc n) [] = refl
+fields-split (suc n) (b ∷ t) = go (eqb b pipe) (fields-split n t)
+  where
+    go : (u : Bool) → length (fieldsOf t) ≡ length (fieldsOf (take n t)) + length (fieldsOf (drop n t))
+        → length (cond u ([] ∷ fieldsOf t) (lengthen b (fieldsOf t)))
+        ≡ length (cond u ([] ∷ fieldsOf (take n t)) (lengthen b (fieldsOf (take n t)))) + length (fieldsOf (drop n t))
+    go true r = omega (arith, r)
+    go false r = rw (lengthen-length, lengthen-length) r
+
 pub fields-few : (t : Text) → length (fieldsOf t) ≤ length t
 unfolding fieldsOf
 fields-few [] = omega arith

@@ -1,4 +1,4 @@
--- What each need of `count_fields`, `field_start`, `pipe_from`, `field_of`, `field`, `has_field` and `field_position` asks.
+-- What each need of `count_few`, `few_from`, `count_fields`, `field_start`, `pipe_from`, `field_of`, `field`, `has_field` and `field_position` asks.
 -- Assumes nothing.
 use mathlib.Core.Path.{_≡_, refl, sym, _∙_}
 use mathlib.Core.Bool.{Bool, true, false, cond}
@@ -11,15 +11,16 @@ use borrow.Author.Needs.{needs}
 use borrow.Author.Tests.{eq-eqb, ne-eqb, ltb-true}
 use lib.Dec.{eqb, ltb}
 use lib.ListN.{length, getD, take, drop, length-drop}
+use lib.Seq.{drop-drop, length-take-le}
 use Rattle.house.specs.Text.{Text}
 use Rattle.house.proofs.Small.{clash}
 use Rattle.house.proofs.Suffix.{drop-here, drop-past}
 use Rattle.lines.specs.Lines.{pipe, textLen, fieldsOf, fieldOf, textAt, fieldText, fieldThere, linesLen, fieldsLen, fieldPosition}
 use Rattle.lines.specs.Inside.{pipeLen}
 use Rattle.lines.proofs.LineLaws.{text-le, text-after}
-use Rattle.lines.proofs.FieldLaws.{lengthen-length, fields-first, fields-none, fields-le, field-first}
+use Rattle.lines.proofs.FieldLaws.{lengthen-length, fields-few, fields-split, fields-first, fields-none, fields-le, field-first}
 
--- count_fields: the count x, from a position i with n fields counted; a turn leaves m
+-- count_few, count_fields: the count x, from a position i with n fields counted; a turn leaves m
 pub count-holds : (t : Text) → length (fieldsOf t) ≡ 0 + length (fieldsOf t)
 count-holds t = simp zero-add
 
@@ -37,7 +38,22 @@ module _ (t : Text) (i n x : ℕ) (inv : x ≡ n + length (fieldsOf (drop i t)))
   unfolding fieldsOf
   count-end h = rw inv (simp (drop-past t i h, add-zero))
 
-pub ruleset for-count-fields = (needs, count-holds, count-pipe, count-on, count-end)
+  -- a run of bytes, of which k fields end
+  module _ (e k : ℕ) (m : i < e) (l : e ≤ length t) (c : k ≡ length (fieldsOf (take (e - i) (drop i t)))) where
+    pub run-on : x ≡ n + k + length (fieldsOf (drop e t))
+    run-on =
+        let a : i + (e - i) ≡ e = omega arith in
+        rw (inv, fields-split (e - i) (drop i t), drop-drop (e - i) i t, a, ← c) (omega arith)
+
+    pub run-few : n ≤ i → n + k ≤ e
+    run-few h = omega (arith, c, fields-few (take (e - i) (drop i t)), length-take-le (e - i) (drop i t) (omega (arith, length-drop i t)))
+
+pub ruleset for-count-few = (needs, count-holds, count-pipe, count-on, count-end)
+
+pub run-short : (t : Text) (i e : ℕ) → i < e → e ≤ length t → e ≤ i + 255 → length (take (e - i) (drop i t)) ≤ 255
+run-short t i e m l h = omega (arith, length-take-le (e - i) (drop i t) (omega (arith, length-drop i t)))
+
+pub ruleset for-count-fields = (needs, count-holds, run-on, run-few, run-short, count-end)
 
 -- field_start: the start x, from a position i with f fields left
 pub start-zero : (t : Text) → fieldsLen 0 t ≡ 0

@@ -1,21 +1,22 @@
--- What each need of `ending`, `text_end`, `line_at`, `line_start` and `line_text` asks.
+-- What each need of `ending`, `lesser`, `least`, `plain_from`, `text_end`, `line_at`, `line_start` and `line_text` asks.
 -- Assumes nothing.
 use mathlib.Core.Path.{_≡_, refl, sym, _∙_}
-use mathlib.Core.Bool.{not}
+use mathlib.Core.Bool.{Bool, true, false, not, cond}
 use mathlib.Core.List.{[], _∷_}
 use Prim.Native.Nat.{ℕ, zero, suc, _+_, _-_, _≤_, _<_}
 use native.Mathlib.Nat.{zero-add, add-zero, add-assoc}
 use native.Mathlib.Numerals.{sub-one}
 use native.Mathlib.Omega.{arith}
 use borrow.Author.Needs.{needs}
-use borrow.Author.Tests.{eq-eqb, ne-eqb}
-use lib.Dec.{eqb}
-use lib.ListN.{length, getD, take, drop}
+use borrow.Author.Tests.{eq-eqb, ne-eqb, lt-ltb, le-ltb, ltb-true, ltb-false}
+use lib.Dec.{eqb, ltb}
+use lib.ListN.{length, getD, take, drop, length-drop}
 use lib.Seq.{drop-drop, drop-nil}
 use Rattle.house.specs.Text.{Text}
 use Rattle.house.proofs.Suffix.{drop-here, drop-past}
 use Rattle.lines.specs.declared.LineAt.{LineAt}
 use Rattle.lines.specs.Lines.{LF, CR, lfNext, endingOf, linesOf, lineOf, textLen, lineLen, lineAt, LineIs, textAt, linesLen}
+use Rattle.lines.specs.Inside.{lesserOf, leastFrom, leastOf}
 use Rattle.lines.proofs.LineLaws.{ending-plain, text-more, text-stop, text-nil, ended-is, line-is, at-next, at-text, left-falls, text-after}
 
 -- ending
@@ -48,6 +49,68 @@ module _ (s : Text) (i : ℕ) where
         ending-cr k g = rw (drop-here s i h, ne-eqb _ _ e, eq-eqb _ _ f, drop-here s (i + 1) k, ne-eqb _ _ g)
 
 pub ruleset for-ending = (needs, ending-past, ending-lf, ending-other, ending-last, ending-crlf, ending-cr)
+
+-- lesser
+module _ (a b : ℕ) where
+  pub lesser-second : b < a → b ≡ lesserOf a b
+  unfolding lesserOf
+  lesser-second h = rw (lt-ltb _ _ h)
+
+  pub lesser-first : a ≤ b → a ≡ lesserOf a b
+  unfolding lesserOf
+  lesser-first h = rw (le-ltb _ _ h)
+
+  -- it is below neither
+  lesser-le : (lesserOf a b ≤ a) × (lesserOf a b ≤ b)
+  unfolding lesserOf
+  lesser-le = go (ltb b a) refl
+    where
+      go : (t : Bool) → ltb b a ≡ t → (cond t b a ≤ a) × (cond t b a ≤ b)
+      go true e = (omega (arith, ltb-true b a e), omega arith)
+      go false e = (omega arith, ltb-false b a e)
+
+pub ruleset for-lesser = (needs, lesser-second, lesser-first)
+
+-- least: from a position i, with the least so far
+pub least-holds : (t : Text) → leastOf t ≡ leastFrom 255 (drop 0 t)
+unfolding leastOf
+least-holds t = refl
+
+module _ (t : Text) (i low x : ℕ) (inv : x ≡ leastFrom low (drop i t)) where
+  pub least-on : (m : ℕ) → i < length t → m ≡ lesserOf low (getD t i 0) → x ≡ leastFrom m (drop (i + 1) t)
+  unfolding leastFrom
+  least-on m h e = rw (inv, drop-here t i h, e)
+
+  pub least-end : length t ≤ i → low ≡ x
+  unfolding leastFrom
+  least-end h = rw (inv, drop-past t i h)
+
+pub ruleset for-least = (needs, least-holds, least-on, least-end)
+
+-- plain_from: bytes of which the least is 14 or more end no line
+least-le : (low : ℕ) (t : Text) → leastFrom low t ≤ low
+unfolding leastFrom
+least-le low [] = omega arith
+least-le low (b ∷ t) = let h = least-le (lesserOf low b) t in omega (arith, h, lesser-le low b .0)
+
+plain-run : (n low : ℕ) (t : Text) → n ≤ length t → 14 ≤ leastFrom low (take n t) → textLen t ≡ n + textLen (drop n t)
+unfolding leastFrom
+plain-run zero low t h l = simp zero-add
+plain-run (suc n) low [] h l = absurd (omega arith)
+plain-run (suc n) low (b ∷ t) h l =
+    let k : 14 ≤ b = omega (arith, l, least-le (lesserOf low b) (take n t), lesser-le low b .1) in
+    let r : textLen t ≡ n + textLen (drop n t) = plain-run n (lesserOf low b) t (omega arith) l in
+    rw (text-more b t (ending-plain b t k), r) (omega arith)
+
+module _ (s : Text) (i x : ℕ) (inv : x ≡ i + textLen (drop i s)) where
+  pub plain-on : (m : ℕ) → i < length s → 16 ≤ length s - i → m ≡ leastOf (take (i + 16 - i) (drop i s)) → 14 ≤ m → x ≡ i + 16 + textLen (drop (i + 16) s)
+  unfolding leastOf
+  plain-on m h f e l =
+      let n : i + 16 - i ≡ 16 = omega arith in
+      let r = plain-run 16 255 (drop i s) (omega (arith, length-drop i s)) (rw (← n, ← e) l) in
+      rw (inv, r, drop-drop 16 i s) (omega arith)
+
+pub ruleset for-plain-from = (needs, plain-on)
 
 -- text_end: the end x, from a position i that the loop has come to
 module _ (s : Text) (i x : ℕ) (inv : x ≡ i + textLen (drop i s)) where

@@ -31,6 +31,14 @@ lesserOf a b = cond (ltb b a) b a
 unfoldable pub greaterOf : ℕ → ℕ → ℕ
 greaterOf a b = cond (ltb a b) b a
 
+-- the least of a number and some bytes
+unfoldable pub leastFrom : ℕ → Text → ℕ
+leastFrom low [] = low
+leastFrom low (b ∷ t) = leastFrom (lesserOf low b) t
+
+unfoldable pub leastOf : Text → ℕ
+leastOf t = leastFrom 255 t
+
 -- the lowest of causes 4 to 6 at a record of kind k with n fields that follows one of kind p, 0 for none
 unfoldable pub kindCause : ℕ → ℕ → ℕ → ℕ
 kindCause p k n = cond (eqb k 0) 4 (cond (not (eqb n (countOf k))) 5 (cond (not (follows p k)) 6 0))

@@ -5,20 +5,11 @@ use crate::kinds::IF;
 use crate::kinds::count_of;
 use crate::kinds::kind_of;
 use crate::kinds::may_follow;
+use crate::line::lesser;
 use crate::line::line_at;
 ghost use mathlib.Core.Path.{_≡_};
 ghost use Rattle.lines.specs.Shape.{printable, pipeLast, causeOf, shapeOf};
-ghost use Rattle.lines.specs.Inside.{lesserOf, greaterOf, kindCause};
-
-// The lesser of two bytes.
-fn lesser(a: u8, b: u8) -> u8
-    ensures { λ r. ⌜ r ≡ lesserOf a b ⌝ }
-{
-    if b < a {
-        return b;
-    }
-    a
-}
+ghost use Rattle.lines.specs.Inside.{greaterOf, kindCause};
 
 // The greater of two bytes.
 fn greater(a: u8, b: u8) -> u8

@@ -3,10 +3,39 @@ use crate::line::ending;
 use crate::line::line_start;
 use crate::line::line_text;
 ghost use mathlib.Core.Path.{_≡_};
-ghost use Prim.Native.Nat.{_+_};
+ghost use Prim.Native.Nat.{_+_, _≤_, _<_};
 ghost use lib.ListN.{drop, length};
 ghost use Rattle.lines.specs.Lines.{lineOf, fieldsOf, fieldOf, fieldText, fieldThere, fieldsLen, fieldPosition};
 ghost use Rattle.lines.specs.Inside.{pipeLen};
+
+// How many fields a text of few bytes has: counted in a byte, so that many bytes are looked at at a time.
+fn count_few(text: &[u8]) -> u8
+    requires { ⌜ length (now text) ≤ 255 ⌝ }
+    ensures { λ r. ⌜ r ≡ length (fieldsOf (now (text .entry))) ⌝ }
+{
+    let mut n: u8 = 0;
+    let mut i = 0;
+    while i < text.len() {
+        if text[i] == b'|' {
+            n += 1;
+        }
+        i += 1;
+    }
+    n
+}
+
+// The end of at most 255 bytes from a position on.
+fn few_from(text: &[u8], at: usize) -> usize
+    requires { ⌜ at < length (now text) ⌝ }
+    ensures { λ r. ⌜ at < r ⌝ }
+    ensures { λ r. ⌜ r ≤ length (now (text .entry)) ⌝ }
+    ensures { λ r. ⌜ r ≤ at + 255 ⌝ }
+{
+    if text.len() - at < 255 {
+        return text.len();
+    }
+    at + 255
+}
 
 // How many fields a line's text has.
 pub fn count_fields(text: &[u8]) -> usize
@@ -15,10 +44,10 @@ pub fn count_fields(text: &[u8]) -> usize
     let mut n: usize = 0;
     let mut i = 0;
     while i < text.len() {
-        if text[i] == b'|' {
-            n += 1;
-        }
-        i += 1;
+        let e = few_from(text, i);
+        let k = count_few(&text[i..e]);
+        n += k as usize;
+        i = e;
     }
     n
 }

@@ -4,6 +4,7 @@ ghost use mathlib.Core.Path.{_≡_};
 ghost use Prim.Native.Nat.{_≤_, _+_, _-_};
 ghost use lib.ListN.{drop, length};
 ghost use Rattle.lines.specs.Lines.{endingOf, textLen, LineIs, textAt, linesLen};
+ghost use Rattle.lines.specs.Inside.{lesserOf, leastOf};
 
 // How many bytes the line ending at a position has, 0 for none.
 pub(crate) fn ending(file: &[u8], at: usize) -> usize
@@ -30,11 +31,52 @@ pub(crate) fn ending(file: &[u8], at: usize) -> usize
     2
 }
 
+// The lesser of two bytes.
+pub(crate) fn lesser(a: u8, b: u8) -> u8
+    ensures { λ r. ⌜ r ≡ lesserOf a b ⌝ }
+{
+    if b < a {
+        return b;
+    }
+    a
+}
+
+// The least byte of a text, 255 for none.
+fn least(text: &[u8]) -> u8
+    ensures { λ r. ⌜ r ≡ leastOf (now (text .entry)) ⌝ }
+{
+    let mut low: u8 = 255;
+    let mut i = 0;
+    while i < text.len() {
+        low = lesser(low, text[i]);
+        i += 1;
+    }
+    low
+}
+
+// A position up to which no line ends that goes on at another: sixteen bytes at a time are passed over, of which the least is no LF and no CR.
+fn plain_from(file: &[u8], at: usize) -> usize
+    ensures { λ r. ⌜ at + textLen (drop at (now (file .entry))) ≡ r + textLen (drop r (now (file .entry))) ⌝ }
+{
+    let mut i = at;
+    while i < file.len() {
+        if file.len() - i < 16 {
+            return i;
+        }
+        let e = i + 16;
+        if least(&file[i..e]) < 14 {
+            return i;
+        }
+        i = e;
+    }
+    i
+}
+
 // Where the text of the line that starts at a position ends.
 fn text_end(file: &[u8], at: usize) -> usize
     ensures { λ r. ⌜ r ≡ at + textLen (drop at (now (file .entry))) ⌝ }
 {
-    let mut i = at;
+    let mut i = plain_from(file, at);
     while i < file.len() {
         if file[i] < 14 {
             let n = ending(file, i);

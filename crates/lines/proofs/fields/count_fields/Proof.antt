@@ -1,7 +1,6 @@
 -- `lines::fields::count_fields` meets its contract.
 -- Assumes nothing.
 use Rattle.lines.proofs.FieldNeeds.{for-count-fields}
-use mathlib.Core.Logic.{⊎-elim}
 use Prim.Native.Nat.{_-_, _≤_, _+_}
 use mathlib.Core.Path.{_≡_}
 use lib.ListN.{length, drop}
@@ -26,5 +25,9 @@ count-fields-spec =
     (λ c. search for-count-fields)
     (λ c. search for-count-fields)
     (λ c. search for-count-fields)
-    (λ c. ⊎-elim (λ w. search for-count-fields) (λ w. search for-count-fields) (c .if1 .came))
+    (λ c. search for-count-fields)
+    (λ c. search for-count-fields)
+    (λ c. search for-count-fields)
+    (λ c. search for-count-fields)
+    (λ c. (search for-count-fields, search for-count-fields, search for-count-fields))
     (λ c. search for-count-fields))

@@ -2,10 +2,10 @@
 -- Assumes nothing.
 use Rattle.lines.proofs.LineNeeds.{for-text-end}
 use Prim.Native.Nat.{_-_, _+_}
+use mathlib.Core.Logic.{⊎-elim}
 use mathlib.Core.Path.{_≡_}
 use lib.ListN.{length, drop}
 use Rattle.lines.specs.Lines.{textLen}
-use mathlib.Core.Logic.{⊎-elim}
 use Rattle.lines.proofs.line.text_end.Statement.{statement}
 use Rattle.lines.proofs.line.text_end.Tie as tie
 
@@ -21,6 +21,7 @@ text-end-spec =
     (tie.spec
     Inv-loop
     μ-loop
+    (λ c. search for-text-end)
     (λ c. search for-text-end)
     (λ c. search for-text-end)
     (λ c. search for-text-end)
