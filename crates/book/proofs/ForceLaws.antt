@@ -13,16 +13,17 @@ use Rattle.house.specs.Dates.{isDate, isEnd, datedOf, endedOf}
 use Rattle.house.specs.declared.Date.{Date}
 use Rattle.house.specs.declared.Dated.{Dated}
 use Rattle.house.specs.declared.Dated.the-variants.{Day, NoDate}
+use Rattle.house.proofs.Small.{both}
 use Rattle.house.proofs.DateLaws.{dated-true, dated-number, dated-false, ended-true, ended-number, ended-false}
 use Rattle.book.specs.declared.Position.{Position}
 use Rattle.book.specs.declared.Read.{Read}
 use Rattle.book.specs.declared.Read.the-variants as read
-use Rattle.book.specs.Book.{vaccine, startWidth, codeWidth, bodyWidth, Entry, entryOf, datesOf, startOf, endOf, codeForm, startForm, datesForm, bodyForm, startedBy, inForce, isWhole, readAt}
+use Rattle.book.specs.Book.{vaccine, startWidth, codeWidth, bodyWidth, Entry, entryOf, datesOf, startOf, endOf, codeForm, startForm, datesForm, bodyForm, entryForm, startedBy, inForce, isWhole, readAt}
 use Rattle.book.specs.LookUp.{inForceAt}
 use Rattle.book.specs.Inside.{startHolds, endHolds, datesHold, bodyHolds}
 use Rattle.book.proofs.EntryLaws.{form-is}
 use Rattle.book.proofs.FormLaws.{front, rest, start-in, code-in, code-long, dates-long}
-use Rattle.book.proofs.ReadLaws.{isNone, unread, read-head, read-whole, read-body, read-in, read-part, read-long}
+use Rattle.book.proofs.ReadLaws.{isNone, unwhole, read-head, read-whole, read-body, read-in, read-part, read-long}
 
 -- start_holds, end_holds
 module _ (d k : ℕ) (t : Text) where
@@ -60,15 +61,11 @@ module _ (d k : ℕ) (t : Text) (a : ℕ) (u : Bool) where
   unfolding datesHold
   dates-yes v e p h q = rw (← e, ← p, h) (q ∙ ap (endHolds d) (rest t a))
 
-  pub body-no : a ≡ codeWidth k → u ≡ codeForm k (take a t) → u ≡ false → false ≡ bodyHolds d k t
+  pub body-is : a ≡ codeWidth k → u ≡ datesHold d k (take (length t - a) (drop a t)) → u ≡ bodyHolds d k t
   unfolding bodyHolds
-  body-no e p h = rw (← e, ← p, h)
+  body-is e q = rw (← e) (q ∙ ap (datesHold d k) (rest t a))
 
-  pub body-yes : (v : Bool) → a ≡ codeWidth k → u ≡ codeForm k (take a t) → u ≡ true → v ≡ datesHold d k (take (length t - a) (drop a t)) → v ≡ bodyHolds d k t
-  unfolding bodyHolds
-  body-yes v e p h q = rw (← e, ← p, h) (q ∙ ap (datesHold d k) (rest t a))
-
-pub ruleset for-holds = (needs, front, start-in, code-in, code-long, dates-long, dates-no, dates-yes, body-no, body-yes)
+pub ruleset for-holds = (needs, front, start-in, code-in, code-long, dates-long, dates-no, dates-yes, body-is)
 
 -- the form and the days tested together are the form, and document 01's days
 start-is : (d k : ℕ) (t : Text) → startHolds d k t ≡ (startForm k t && cond (eqb k vaccine) (leb (number t) d) true)
@@ -79,30 +76,36 @@ start-is d k t = go (eqb k 1)
     go true = refl
     go false = refl
 
-swap : (c s i a b : Bool) → (c && ((s && a) && (i && b))) ≡ ((c && (s && i)) && (a && b))
-swap false s i a b = refl
-swap true false i a b = refl
-swap true true true a b = refl
-swap true true false true b = refl
-swap true true false false b = refl
+swap : (s i a b : Bool) → ((s && a) && (i && b)) ≡ ((s && i) && (a && b))
+swap false i a b = refl
+swap true true a b = refl
+swap true false true b = refl
+swap true false false b = refl
 
-pub holds-is : (d k : ℕ) (t : Text) → bodyHolds d k t ≡ (bodyForm k t && inForce d (record { kind = k; body = t }))
-unfolding bodyHolds datesHold endHolds bodyForm datesForm inForce startedBy startOf endOf datesOf
+holds-is : (d k : ℕ) (t : Text) → bodyHolds d k t ≡ (datesForm k (drop (codeWidth k) t) && inForce d (record { kind = k; body = t }))
+unfolding bodyHolds datesHold endHolds datesForm inForce startedBy startOf endOf datesOf
 holds-is d k t =
-    let c = codeForm k (take (codeWidth k) t) in
     let x = take (startWidth k) (drop (codeWidth k) t) in
     let y = drop (startWidth k) (drop (codeWidth k) t) in
-    rw (start-is d k x) (swap c (startForm k x) (isEnd y) (cond (eqb k vaccine) (leb (number x) d) true) (leb d (number y)))
+    rw (start-is d k x) (swap (startForm k x) (isEnd y) (cond (eqb k vaccine) (leb (number x) d) true) (leb d (number y)))
 
 -- in_force
 no-force : (d at : ℕ) (t : Text) → isNone (readAt at t) ≡ true → inForceAt d t ≡ false
 unfolding inForceAt
 no-force d at [] h = refl
-no-force d at (b ∷ u) h = rw (unread at b u h)
+no-force d at (b ∷ u) h = rw (unwhole at b u h)
 
 force-is : (d b : ℕ) (u : Text) → isWhole b u ≡ true → inForceAt d (b ∷ u) ≡ bodyHolds d b (take (bodyWidth b) u)
-unfolding inForceAt entryOf
-force-is d b u h = ap (λ (f : Bool). f && inForce d (entryOf b u)) (form-is b u) ∙ rw h (sym (holds-is d b (take (bodyWidth b) u)))
+unfolding inForceAt entryOf datesOf
+force-is d b u h = rw h (sym (holds-is d b (take (bodyWidth b) u)))
+
+-- an entry of its form is in force by its days alone
+pub force-days : (d b : ℕ) (u : Text) → entryForm (entryOf b u) ≡ true → inForceAt d (b ∷ u) ≡ inForce d (entryOf b u)
+unfolding inForceAt entryOf bodyForm datesOf
+force-days d b u h =
+    let p = both (isWhole b u) (bodyForm b (take (bodyWidth b) u)) (sym (form-is b u) ∙ h) in
+    let q = both (codeForm b (take (codeWidth b) (take (bodyWidth b) u))) (datesForm b (drop (codeWidth b) (take (bodyWidth b) u))) (p .1) in
+    rw (p .0, q .1)
 
 module _ (d : ℕ) (s : Text) (at : ℕ) (e : Read) (r : e ≡ readAt at (drop at s)) where
   pub force-end : e ≡ read.End → false ≡ inForceAt d (drop at s)

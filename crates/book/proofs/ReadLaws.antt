@@ -21,13 +21,16 @@ isNone (read.Entry k b n) = false
 isNone read.End = true
 isNone read.Malformed = true
 
-pub unread : (at x : ℕ) (u : Text) → isNone (readAt at (x ∷ u)) ≡ true → entryForm (entryOf x u) ≡ false
+pub unwhole : (at x : ℕ) (u : Text) → isNone (readAt at (x ∷ u)) ≡ true → isWhole x u ≡ false
 unfolding readAt
-unread at x u h = form-is x u ∙ go (isWhole x u) refl h
+unwhole at x u h = go (isWhole x u) h
   where
-    go : (p : Bool) → isWhole x u ≡ p → isNone (cond p (read.Entry x (at + 1) (record { at = at + 1 + bodyWidth x })) read.Malformed) ≡ true → (isWhole x u && bodyForm x (take (bodyWidth x) u)) ≡ false
-    go true e z = clash (cc)
-    go false e z = rw e
+    go : (p : Bool) → isNone (cond p (read.Entry x (at + 1) (record { at = at + 1 + bodyWidth x })) read.Malformed) ≡ true → p ≡ false
+    go true z = clash (cc)
+    go false z = refl
+
+pub unread : (at x : ℕ) (u : Text) → isNone (readAt at (x ∷ u)) ≡ true → entryForm (entryOf x u) ≡ false
+unread at x u h = form-is x u ∙ rw (unwhole at x u h)
 
 -- an entry was read
 record Here (at : ℕ) (t : Text) (k b : ℕ) (n : Position) : Type 0 where

@@ -34,6 +34,7 @@ use Rattle.book.specs.Inside.{soundFrom}
 use Rattle.book.proofs.WidthLaws.{code-parts, body-parts, by-kind}
 use Rattle.book.proofs.EntryLaws.{form-says, code-is, bytes-here, floor-zero}
 use Rattle.book.proofs.OrderlyLaws.{book-is}
+use Rattle.book.proofs.ForceLaws.{force-days}
 use Rattle.book.proofs.KindLaws.{none-sound, Rows, anyRow, rowAt, row-form, row-head, row-asc, any-miss, any-only, Only, rows-of, Skips, skips}
 
 -- look_up
@@ -180,11 +181,11 @@ module _ (s : Text) (q : Sections) (k n : ℕ) (sec : Section s q k n) (x : Text
 
     -- the entry that is found is the row
     force : (d : ℕ) → inForceAt d (drop (placeOf k from m) s) ≡ inForce d (row m)
-    unfolding placeOf inForceAt rowAt
+    unfolding placeOf rowAt
     force d =
         let e : from + m * (bodyWidth k + 1) ≡ from + (m * (bodyWidth k + 1) + 0) = omega arith in
         ap (inForceAt d) (ap (λ (y : ℕ). drop y s) e ∙ sym (drop-drop (m * (bodyWidth k + 1) + 0) from s) ∙ row-head k n [] (drop from s) (sec .rows) m l)
-        ∙ rw (row-form k n [] (drop from s) (sec .rows) m l)
+        ∙ force-days d k (drop (m * (bodyWidth k + 1) + 1) (drop from s)) (row-form k n [] (drop from s) (sec .rows) m l)
 
     hits : (d : ℕ) → standingAt s d (foundAt k from m) ≡ standingOf (entries s) k x d
     unfolding foundAt standingOf

@@ -46,7 +46,7 @@ unfoldable pub datesHold : ℕ → ℕ → Text → Bool
 datesHold d k t = startHolds d k (take (startWidth k) t) && endHolds d (drop (startWidth k) t)
 
 unfoldable pub bodyHolds : ℕ → ℕ → Text → Bool
-bodyHolds d k t = codeForm k (take (codeWidth k) t) && datesHold d k (drop (codeWidth k) t)
+bodyHolds d k t = datesHold d k (drop (codeWidth k) t)
 
 -- a code of texts that fit
 unfoldable pub codePadded : ℕ → Text → Text → Text

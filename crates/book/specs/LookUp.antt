@@ -14,7 +14,7 @@ use Rattle.book.specs.declared.Found.{Found}
 use Rattle.book.specs.declared.Found.the-variants.{At, Absent}
 use Rattle.book.specs.declared.Standing.{Standing}
 use Rattle.book.specs.declared.Standing.the-variants.{Unknown, OutOfForce, InForce}
-use Rattle.book.specs.Book.{firstWidth, secondWidth, codeWidth, bodyWidth, codeText, entryOf, entryForm, inForce}
+use Rattle.book.specs.Book.{firstWidth, secondWidth, codeWidth, bodyWidth, codeText, entryOf, datesOf, datesForm, isWhole, inForce}
 
 -- where the entries of kind k start, and those of the kind before it end
 unfoldable pub sectionStart : Sections → ℕ → ℕ
@@ -55,10 +55,10 @@ foundIn s q k a b =
     cond (leb k 8 && fits k a b)
     (halve (orderAt s k (sectionStart q k) (codeText k a b)) (foundAt k (sectionStart q k)) Absent (countIn s q k) 0 (countIn s q k)) Absent
 
--- an entry of its form starts these bytes, and is in force on day d
+-- a whole entry of a known kind starts these bytes, its start and end have their form, and it is in force on day d
 unfoldable pub inForceAt : ℕ → Text → Bool
 inForceAt d [] = false
-inForceAt d (k ∷ s) = entryForm (entryOf k s) && inForce d (entryOf k s)
+inForceAt d (k ∷ s) = isWhole k s && (datesForm k (datesOf (entryOf k s)) && inForce d (entryOf k s))
 
 abbrev pub standingAt : Text → ℕ → Found → Standing
 standingAt s d Absent = Unknown

@@ -4,7 +4,6 @@ use crate::Position;
 use crate::Read;
 use crate::Sections;
 use crate::Standing;
-use crate::forms::code_ok;
 use crate::search::find;
 use crate::widths::code_width;
 use crate::widths::start_width;
@@ -56,20 +55,16 @@ fn dates_hold(k: u8, dates: &[u8], day: u32) -> bool
     }
 }
 
-// Whether the body of an entry has its form and is in force on a day.
+// Whether the dates of an entry's body have their form and hold the day.
 fn body_holds(k: u8, body: &[u8], day: u32) -> bool
     requires { ⌜ length (now body) ≡ bodyWidth k ⌝ }
     ensures { λ r. ⌜ r ≡ bodyHolds day k (now (body .entry)) ⌝ }
 {
     let w = code_width(k);
-    if code_ok(k, &body[..w]) {
-        dates_hold(k, &body[w..], day)
-    } else {
-        false
-    }
+    dates_hold(k, &body[w..], day)
 }
 
-// Whether an entry of its form stands at a position and is in force on a day.
+// Whether a whole entry stands at a position whose dates have their form, and it is in force on a day.
 pub fn in_force(book: &[u8], place: Position, day: u32) -> bool
     ensures { λ r. ⌜ r ≡ inForceAt day (drop (place .at) (now (book .entry))) ⌝ }
 {

@@ -13,7 +13,4 @@ body-holds-spec =
     (λ c. search for-holds)
     (λ c. search for-holds)
     (λ c. search for-holds)
-    (λ c. search for-holds)
-    (λ c. search for-holds)
-    (λ c. search for-holds)
     (λ c. search for-holds))
