@@ -1,8 +1,8 @@
--- `texts::forms::is_letter` meets its contract.
+-- `classes::is_letter` meets its contract.
 -- Assumes nothing.
-use Rattle.texts.proofs.TextNeeds.{for-byte}
-use Rattle.texts.proofs.forms.is_letter.Statement.{statement}
-use Rattle.texts.proofs.forms.is_letter.Tie as tie
+use Rattle.classes.proofs.ByteNeeds.{for-byte}
+use Rattle.classes.proofs.is_letter.Statement.{statement}
+use Rattle.classes.proofs.is_letter.Tie as tie
 
 pub is-letter-spec : {M : Type 1} → statement M
 is-letter-spec =

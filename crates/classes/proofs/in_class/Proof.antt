@@ -1,8 +1,8 @@
--- `texts::forms::in_class` meets its contract.
+-- `classes::in_class` meets its contract.
 -- Assumes nothing.
-use Rattle.texts.proofs.TextNeeds.{for-class}
-use Rattle.texts.proofs.forms.in_class.Statement.{statement}
-use Rattle.texts.proofs.forms.in_class.Tie as tie
+use Rattle.classes.proofs.ByteNeeds.{for-class}
+use Rattle.classes.proofs.in_class.Statement.{statement}
+use Rattle.classes.proofs.in_class.Tie as tie
 
 pub in-class-spec : {M : Type 1} → statement M
 in-class-spec =

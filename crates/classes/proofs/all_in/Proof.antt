@@ -1,13 +1,13 @@
--- `texts::forms::all_in` meets its contract.
+-- `classes::all_in` meets its contract.
 -- Assumes nothing.
-use Rattle.texts.proofs.TextNeeds.{for-bytes}
+use Rattle.classes.proofs.ByteNeeds.{for-bytes}
 use mathlib.Core.Path.{_≡_}
 use Prim.Native.Nat.{_-_}
 use lib.ListN.{length, drop}
 use Rattle.house.specs.Text.{all}
-use Rattle.texts.specs.Leaves.{inClass}
-use Rattle.texts.proofs.forms.all_in.Statement.{statement}
-use Rattle.texts.proofs.forms.all_in.Tie as tie
+use Rattle.classes.specs.Classes.{inClass}
+use Rattle.classes.proofs.all_in.Statement.{statement}
+use Rattle.classes.proofs.all_in.Tie as tie
 
 abbrev Inv-loop : tie.InvT-loop
 Inv-loop t class i₀ i = all (inClass class) t ≡ all (inClass class) (drop i t)
