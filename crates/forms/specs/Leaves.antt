@@ -6,7 +6,7 @@ use mathlib.Core.List.{List}
 use lib.Dec.{eqb, ltb}
 use Rattle.house.specs.Text.{Text, bytes, any, within, isEmpty, same, number}
 use Rattle.lines.specs.Records.{Rec, IP, II, IE, IN, isKind}
-use Rattle.house.specs.Dates.{isDate}
+use Rattle.dates.specs.Dates.{isDate}
 use Rattle.rules.specs.Forms.{text, formOf, isJudged, isRelaxed, isMissing, isMisformed, isSound}
 use Rattle.rules.specs.Rules.{sameCount}
 

@@ -57,10 +57,10 @@ pub fn uli_rule(kind: u8, t: &[u8], ip: &[u8]) -> u8
 fn day_later(t: &[u8], today: u32) -> u8
     ensures { λ r. ⌜ r ≡ dayLater (now (t .entry)) today ⌝ }
 {
-    let d = house::Date::of(t);
+    let d = dates::Date::of(t);
     match d {
-        house::Dated::Day(day) => { if today < day.number { 8 } else { 0 } }
-        house::Dated::NoDate => 0,
+        dates::Dated::Day(day) => { if today < day.number { 8 } else { 0 } }
+        dates::Dated::NoDate => 0,
     }
 }
 
@@ -79,10 +79,10 @@ pub fn day_rule(t: &[u8], today: u32) -> u8
 fn born_after(n: u32, ip: &[u8]) -> bool
     ensures { λ r. ⌜ r ≡ bornAfter n (recOf (now (ip .entry))) ⌝ }
 {
-    let d = house::Date::of(lines::field_of(ip, 25));
+    let d = dates::Date::of(lines::field_of(ip, 25));
     match d {
-        house::Dated::Day(day) => n < day.number,
-        house::Dated::NoDate => false,
+        dates::Dated::Day(day) => n < day.number,
+        dates::Dated::NoDate => false,
     }
 }
 
@@ -90,16 +90,16 @@ fn born_after(n: u32, ip: &[u8]) -> bool
 fn date_later(t: &[u8], today: u32, ip: &[u8]) -> u8
     ensures { λ r. ⌜ r ≡ dateLater (now (t .entry)) today (recOf (now (ip .entry))) ⌝ }
 {
-    let d = house::Date::of(t);
+    let d = dates::Date::of(t);
     match d {
-        house::Dated::Day(day) => {
+        dates::Dated::Day(day) => {
             let n = day.number;
             if today < n {
                 return 8;
             }
             if born_after(n, ip) { 8 } else { 0 }
         }
-        house::Dated::NoDate => 0,
+        dates::Dated::NoDate => 0,
     }
 }
 

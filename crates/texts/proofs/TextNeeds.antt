@@ -11,15 +11,15 @@ use borrow.Author.Tests.{ne-eqb, eqb-true, eqb-false}
 use lib.Dec.{eqb, ltb}
 use lib.ListN.{length, getD, take, drop, length-drop}
 use lib.Seq.{take-all}
-use Rattle.house.specs.declared.Date.{Date}
-use Rattle.house.specs.declared.Dated.{Dated}
-use Rattle.house.specs.declared.Dated.the-variants.{Day, NoDate}
+use Rattle.dates.specs.declared.Date.{Date}
+use Rattle.dates.specs.declared.Dated.{Dated}
+use Rattle.dates.specs.declared.Dated.the-variants.{Day, NoDate}
 use Rattle.house.specs.Text.{Text, all, any, front, behind, same, within, run, digits, number, isDigit}
-use Rattle.house.specs.Dates.{isDate, datedOf}
+use Rattle.dates.specs.Dates.{isDate, datedOf}
 use Rattle.house.proofs.Suffix.{drop-here, drop-past}
 use Rattle.house.proofs.Decisions.{is-same, not-same}
-use Rattle.house.proofs.PadLaws.{for-number-of}
-use Rattle.house.proofs.DateLaws.{dated-true, dated-false}
+use Rattle.dates.proofs.NumberLaws.{for-number-of}
+use Rattle.dates.proofs.DateLaws.{dated-true, dated-false}
 use Rattle.rules.specs.Forms.{isPrefix, isBatch, isTotal, countForm, isNumber, isUli, isType, isHistorical, isCode, isSiteText, isMethodText, isReason, isFraction, isDosage, isDosageType, isManufacturer, isLot, isCount, isReasonNot, isOrganization, isGrade}
 use Rattle.classes.specs.Classes.{inClass}
 use Rattle.classes.proofs.RunLaws.{within-yes, within-low, within-high, run-parts, run-most}

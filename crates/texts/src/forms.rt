@@ -9,7 +9,7 @@ ghost use mathlib.Core.Bool.{true};
 ghost use Prim.Native.Nat.{_≤_};
 ghost use lib.ListN.{length};
 ghost use Rattle.house.specs.Text.{any, within, digits, number};
-ghost use Rattle.house.specs.Dates.{isDate};
+ghost use Rattle.dates.specs.Dates.{isDate};
 ghost use Rattle.rules.specs.Forms.{isPrefix, isBatch, isTotal, countForm, isNumber, isUli, isType, isHistorical, isCode, isSiteText, isMethodText, isReason, isFraction, isDosage, isDosageType, isManufacturer, isLot, isCount, isReasonNot, isOrganization, isGrade};
 ghost use Rattle.texts.specs.Leaves.{valueOf, digitsLen};
 
@@ -91,10 +91,10 @@ pub fn is_uli(t: &[u8]) -> bool
 pub fn is_date(t: &[u8]) -> bool
     ensures { λ r. ⌜ r ≡ isDate (now (t .entry)) ⌝ }
 {
-    let d = house::Date::of(t);
+    let d = dates::Date::of(t);
     match d {
-        house::Dated::Day(_) => true,
-        house::Dated::NoDate => false,
+        dates::Dated::Day(_) => true,
+        dates::Dated::NoDate => false,
     }
 }
 

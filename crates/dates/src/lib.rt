@@ -1,10 +1,22 @@
 // Dates: "eight digits YYYYMMDD, a real Gregorian day in the years 1800 to 2199".
-use crate::Date;
-use crate::Dated;
-use crate::texts::all_digits;
-use crate::texts::number_of;
+use house::all_digits;
 ghost use mathlib.Core.Path.{_≡_};
-ghost use Rattle.house.specs.Dates.{isLeap, daysIn, isDay, isEnd, dayOf, datedOf, endedOf};
+ghost use mathlib.Core.Bool.{true};
+ghost use Prim.Native.Nat.{_≤_};
+ghost use lib.ListN.{length};
+ghost use Rattle.house.specs.Text.{digits, number};
+ghost use Rattle.dates.specs.Dates.{isLeap, daysIn, isDay, isEnd, dayOf, datedOf, endedOf};
+
+// A date, as the number YYYYMMDD, or an end that is open, as the number OPEN.
+pub struct Date {
+    pub number: u32,
+}
+
+// What a text or a number reads as.
+pub enum Dated {
+    Day(Date),
+    NoDate,
+}
 
 // Whether a year of the Gregorian calendar has a 29th of February.
 fn is_leap(y: u32) -> bool
@@ -28,6 +40,22 @@ fn days_in(y: u32, m: u32) -> u32
         4 | 6 | 9 | 11 => 30,
         _ => 31,
     }
+}
+
+// The number that up to eight digits write.
+fn number_of(text: &[u8]) -> u32
+    requires { ⌜ length (now text) ≤ 8 ⌝ }
+    requires { ⌜ digits (now text) ≡ true ⌝ }
+    ensures { λ r. ⌜ r ≡ number (now (text .entry)) ⌝ }
+{
+    let mut v: u32 = 0;
+    let mut i = 0;
+    while i < text.len() {
+        let d = (text[i] - 48) as u32;
+        v = v * 10 + d;
+        i += 1;
+    }
+    v
 }
 
 impl Date {

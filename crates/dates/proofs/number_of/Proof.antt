@@ -1,13 +1,13 @@
--- `house::texts::number_of` meets its contract.
+-- `dates::number_of` meets its contract.
 -- Assumes nothing.
-use Rattle.house.proofs.PadLaws.{for-number-of}
+use Rattle.dates.proofs.NumberLaws.{for-number-of}
 use Prim.Native.Nat.{_-_, _≤_, _<_, _^_}
 use mathlib.Core.Path.{_≡_}
 use mathlib.Core.Bool.{true}
 use lib.ListN.{length, drop}
 use Rattle.house.specs.Text.{digits, number, numberFrom}
-use Rattle.house.proofs.texts.number_of.Statement.{statement}
-use Rattle.house.proofs.texts.number_of.Tie as tie
+use Rattle.dates.proofs.number_of.Statement.{statement}
+use Rattle.dates.proofs.number_of.Tie as tie
 
 abbrev Inv-loop : tie.InvT-loop
 Inv-loop text v₀ i₀ v i = (i ≤ length text) × (v < 10 ^ i) × (digits (drop i text) ≡ true) × (number text ≡ numberFrom v (drop i text))

@@ -1,8 +1,8 @@
--- `house::dates::days_in` meets its contract.
+-- `dates::days_in` meets its contract.
 -- Assumes nothing.
-use Rattle.house.proofs.DateLaws.{for-days-in}
-use Rattle.house.proofs.dates.days_in.Statement.{statement}
-use Rattle.house.proofs.dates.days_in.Tie as tie
+use Rattle.dates.proofs.DateLaws.{for-days-in}
+use Rattle.dates.proofs.days_in.Statement.{statement}
+use Rattle.dates.proofs.days_in.Tie as tie
 
 pub days-in-spec : {M : Type 1} → statement M
 days-in-spec =
