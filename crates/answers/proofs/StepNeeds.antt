@@ -9,7 +9,7 @@ use borrow.Author.Needs.{needs}
 use borrow.Author.Tests.{lt-ltb, le-ltb, le-leb}
 use lib.ListN.{length, take}
 use Rattle.house.specs.Text.{Text, count, isEmpty}
-use Rattle.house.specs.Dates.{isDay}
+use Rattle.dates.specs.Dates.{isDay}
 use Rattle.house.proofs.Small.{clash}
 use Rattle.lines.specs.declared.Shape.{Shape}
 use Rattle.lines.specs.declared.Shape.the-variants.{Right, Fault}

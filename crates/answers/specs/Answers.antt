@@ -7,7 +7,7 @@ use mathlib.Core.List.{List, [], _∷_}
 use lib.ListN.{length}
 use lib.Dec.{ltb}
 use Rattle.house.specs.Text.{Text, count, isEmpty}
-use Rattle.house.specs.Dates.{isDay}
+use Rattle.dates.specs.Dates.{isDay}
 use Rattle.lines.specs.Records.{IN, isKind, recs}
 use Rattle.lines.specs.Shape.{shapeOf}
 use Rattle.lines.specs.declared.Shape.{Shape}

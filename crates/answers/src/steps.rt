@@ -1,7 +1,7 @@
 // The steps of the check, in the order of document 01's answers: each function answers from one of them on.
 use crate::Answer;
 use book::Sections;
-use house::Date;
+use dates::Date;
 use judge::Judged;
 use lines::Shape;
 use settle::Settled;

@@ -7,7 +7,7 @@ use borrow.Author.Needs.{needs}
 use borrow.Author.Tests.{eq-eqb, ne-eqb}
 use lib.ListN.{drop}
 use Rattle.house.specs.Text.{Text, same}
-use Rattle.house.specs.Dates.{isDate}
+use Rattle.dates.specs.Dates.{isDate}
 use Rattle.lines.specs.Lines.{fieldOf, fieldsLen}
 use Rattle.lines.specs.Records.{recordOf, recOf}
 use Rattle.rules.specs.Forms.{isUli, isType, isCode}

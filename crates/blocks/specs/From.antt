@@ -3,7 +3,7 @@
 use mathlib.Core.Bool.{Bool, _&&_}
 use Rattle.house.specs.Text.{Text, same}
 use Rattle.lines.specs.Lines.{fieldOf}
-use Rattle.house.specs.Dates.{isDate}
+use Rattle.dates.specs.Dates.{isDate}
 use Rattle.rules.specs.Forms.{isType, isCode}
 
 -- from its field 6 on: its date and its vaccine are sound

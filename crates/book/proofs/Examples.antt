@@ -6,7 +6,7 @@ use mathlib.Core.List.{List, [], _∷_, _++_}
 use Prim.Native.Nat.{ℕ}
 use lib.Dec.{eqb}
 use Rattle.house.specs.Text.{Text, bytes, all, orderOf, below, same, isDigit, isGraphic, digits, number, graphicLen, isPadded}
-use Rattle.house.specs.Dates.{isLeap, daysIn, isDay, isDate, isEnd}
+use Rattle.dates.specs.Dates.{isLeap, daysIn, isDay, isDate, isEnd}
 use Rattle.house.specs.Search.{halve}
 use Rattle.book.specs.declared.Standing.{Standing}
 use Rattle.book.specs.declared.Standing.the-variants.{Unknown, OutOfForce, InForce}

@@ -9,12 +9,12 @@ use borrow.Author.Needs.{needs}
 use lib.Dec.{eqb, leb}
 use lib.ListN.{length, take, drop}
 use Rattle.house.specs.Text.{Text, number}
-use Rattle.house.specs.Dates.{isDate, isEnd, datedOf, endedOf}
-use Rattle.house.specs.declared.Date.{Date}
-use Rattle.house.specs.declared.Dated.{Dated}
-use Rattle.house.specs.declared.Dated.the-variants.{Day, NoDate}
+use Rattle.dates.specs.Dates.{isDate, isEnd, datedOf, endedOf}
+use Rattle.dates.specs.declared.Date.{Date}
+use Rattle.dates.specs.declared.Dated.{Dated}
+use Rattle.dates.specs.declared.Dated.the-variants.{Day, NoDate}
 use Rattle.house.proofs.Small.{both}
-use Rattle.house.proofs.DateLaws.{dated-true, dated-number, dated-false, ended-true, ended-number, ended-false}
+use Rattle.dates.proofs.DateLaws.{dated-true, dated-number, dated-false, ended-true, ended-number, ended-false}
 use Rattle.book.specs.declared.Position.{Position}
 use Rattle.book.specs.declared.Read.{Read}
 use Rattle.book.specs.declared.Read.the-variants as read

@@ -9,12 +9,12 @@ use borrow.Author.Needs.{needs}
 use lib.ListN.{length, getD, take, drop, length-drop}
 use lib.Seq.{take-all, length-take-le}
 use Rattle.house.specs.Text.{Text, digits, isPadded}
-use Rattle.house.specs.Dates.{isEnd, datedOf}
-use Rattle.house.specs.declared.Date.{Date}
-use Rattle.house.specs.declared.Dated.{Dated}
-use Rattle.house.specs.declared.Dated.the-variants.{Day, NoDate}
+use Rattle.dates.specs.Dates.{isEnd, datedOf}
+use Rattle.dates.specs.declared.Date.{Date}
+use Rattle.dates.specs.declared.Dated.{Dated}
+use Rattle.dates.specs.declared.Dated.the-variants.{Day, NoDate}
 use Rattle.house.proofs.Suffix.{drop-here, drop-past}
-use Rattle.house.proofs.DateLaws.{dated-true, dated-false}
+use Rattle.dates.proofs.DateLaws.{dated-true, dated-false}
 use Rattle.book.specs.declared.Read.the-variants as read
 use Rattle.book.specs.Book.{firstWidth, startWidth, codeWidth, bodyWidth, firstForm, secondForm, codeForm, startForm, datesForm, bodyForm, isWhole, readAt}
 use Rattle.book.proofs.WidthLaws.{code-parts, body-parts}

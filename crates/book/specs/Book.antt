@@ -7,7 +7,7 @@ use mathlib.Core.List.{List, [], _∷_, _++_}
 use lib.ListN.{length, take, drop}
 use lib.Dec.{eqb, ltb, leb}
 use Rattle.house.specs.Text.{Text, any, all, adjacent, within, below, same, digits, number, isPadded}
-use Rattle.house.specs.Dates.{isDate, isEnd}
+use Rattle.dates.specs.Dates.{isDate, isEnd}
 use Rattle.book.specs.declared.Read.{Read}
 use Rattle.book.specs.declared.Read.the-variants as read
 use Rattle.book.specs.declared.Sections.{Sections}

@@ -2,8 +2,8 @@
 use crate::widths::code_width;
 use crate::widths::first_width;
 use crate::widths::start_width;
-use house::Date;
-use house::Dated;
+use dates::Date;
+use dates::Dated;
 ghost use mathlib.Core.Path.{_≡_};
 ghost use Prim.Native.Nat.{_+_};
 ghost use lib.ListN.{length};

@@ -1,5 +1,5 @@
 // Widths by kind: "a body whose length the kind fixes".
-use house::Date;
+use dates::Date;
 ghost use mathlib.Core.Path.{_≡_};
 ghost use Prim.Native.Nat.{_≤_};
 ghost use Rattle.book.specs.Book.{firstWidth, secondWidth, startWidth, codeWidth, bodyWidth};

@@ -9,13 +9,13 @@ use borrow.Author.Tests.{eq-eqb, ne-eqb, le-leb, lt-leb, leb-true, lt-ltb, le-lt
 use lib.Dec.{eqb, ltb, leb}
 use lib.ListN.{length, getD, take, drop, length-drop}
 use lib.Seq.{take-all}
-use Rattle.house.specs.declared.Date.{Date}
-use Rattle.house.specs.declared.Dated.{Dated}
-use Rattle.house.specs.declared.Dated.the-variants.{Day, NoDate}
+use Rattle.dates.specs.declared.Date.{Date}
+use Rattle.dates.specs.declared.Dated.{Dated}
+use Rattle.dates.specs.declared.Dated.the-variants.{Day, NoDate}
 use Rattle.house.specs.Text.{Text, digits, number}
-use Rattle.house.specs.Dates.{isDate, isDay, datedOf}
+use Rattle.dates.specs.Dates.{isDate, isDay, datedOf}
 use Rattle.house.proofs.Small.{both, clash}
-use Rattle.house.proofs.DateLaws.{dated-true, dated-number, dated-false}
+use Rattle.dates.proofs.DateLaws.{dated-true, dated-number, dated-false}
 use Rattle.book.specs.declared.Sections.{Sections}
 use Rattle.book.specs.declared.Validity.{Validity}
 use Rattle.book.specs.declared.Validity.the-variants.{Valid, Malformed}

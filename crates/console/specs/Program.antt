@@ -7,7 +7,7 @@ use mathlib.Core.Bool.{Bool, not, cond, _&&_}
 use lib.ListN.{length, getD, take, drop}
 use lib.Dec.{eqb, ltb, leb}
 use Rattle.house.specs.Text.{Text, number}
-use Rattle.house.specs.Dates.{isDate, isDay}
+use Rattle.dates.specs.Dates.{isDate, isDay}
 use Rattle.book.specs.Book.{bookOk}
 use Rattle.answers.specs.declared.Answer.{Answer}
 use Rattle.answers.specs.declared.Answer.the-variants.{Date, Long, Book, Ledger}

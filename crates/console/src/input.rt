@@ -1,8 +1,8 @@
 // What the program answers of what it reads.
 use answers::Answer;
 use book::Validity;
-use house::Date;
-use house::Dated;
+use dates::Date;
+use dates::Dated;
 ghost use mathlib.Core.Path.{_≡_};
 ghost use Rattle.answers.specs.Answers.{left};
 ghost use Rattle.console.specs.Program.{todayIn, overLong, answerOf};

@@ -16,7 +16,7 @@ use Rattle.lines.specs.Lines.{fieldsOf, fieldOf, fieldsLen}
 use Rattle.lines.specs.Records.{Rec, recOf}
 use Rattle.lines.proofs.FieldLaws.{fields-le}
 use Rattle.rules.specs.Forms.{anything, table, formOf, isJudged, isRelaxed, relaxedBy, isSound, isGiven}
-use Rattle.texts.proofs.TextLaws.{within-yes, within-low, within-high}
+use Rattle.classes.proofs.RunLaws.{within-yes, within-low, within-high}
 use Rattle.forms.specs.Leaves.{refusedBy, optionalIn, lowestIn, soundAs}
 use Rattle.forms.proofs.FieldLaws.{text-is, field-is, relaxed-is, empty-true, empty-false, lowest-either, lowest-filled, sound-as, field-behind}
 use Rattle.forms.proofs.SoundLaws.{given-by}

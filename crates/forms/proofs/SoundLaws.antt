@@ -5,7 +5,7 @@ use mathlib.Core.Bool.{Bool, true, false, not, cond, _&&_}
 use mathlib.Core.List.{[], _∷_}
 use Prim.Native.Nat.{ℕ}
 use Rattle.house.specs.Text.{Text, isEmpty, orderOf, same, run}
-use Rattle.house.specs.Dates.{isDate}
+use Rattle.dates.specs.Dates.{isDate}
 use Rattle.house.proofs.Small.{clash}
 use Rattle.lines.specs.Records.{Rec, IH, IP, II, IE, IN, IA, IF}
 use Rattle.rules.specs.Forms.{text, isPrefix, isBatch, isTotal, countForm, isNumber, isUli, isType, isHistorical, isCode, isSiteText, isMethodText, isReason, isDosage, isDosageType, isManufacturer, isLot, isCount, isReasonNot, isOrganization, isGrade, table, formOf, isJudged, isRelaxed, isOptional, isMissing, isMisformed, isSound, isGiven}

@@ -9,7 +9,6 @@ pub mod OrderLaws
 pub mod Decisions
 pub mod SearchLaws
 pub mod PadLaws
-pub mod DateLaws
 pub mod KeyLaws
 pub mod Padding
 pub mod OneAnswer

@@ -5,10 +5,8 @@ use mathlib.Core.Bool.{Bool}
 use Prim.Native.Nat.{ℕ}
 use lib.ListN.{length}
 use Rattle.house.specs.declared.Order.{Order}
-use Rattle.house.specs.declared.Dated.{Dated}
 use Rattle.house.specs.declared.Key.{Key}
 use Rattle.house.specs.Text.{Text, orderOf, below, same, pad, isPadded, digits}
-use Rattle.house.specs.Dates.{isDay, isEnd, dayOf, datedOf, endedOf}
 use Rattle.house.specs.Key.{keyOf}
 
 pub compare-one : (a b : Text) (x y : Order) → x ≡ orderOf a b → y ≡ orderOf a b → x ≡ y
@@ -31,21 +29,6 @@ is-padded-one t x y p q = cc
 
 pub all-digits-one : (t : Text) (x y : Bool) → x ≡ digits t → y ≡ digits t → x ≡ y
 all-digits-one t x y p q = cc
-
-pub is-day-one : (n : ℕ) (x y : Bool) → x ≡ isDay n → y ≡ isDay n → x ≡ y
-is-day-one n x y p q = cc
-
-pub of-number-one : (n : ℕ) (x y : Dated) → x ≡ dayOf n → y ≡ dayOf n → x ≡ y
-of-number-one n x y p q = cc
-
-pub date-of-one : (t : Text) (x y : Dated) → x ≡ datedOf t → y ≡ datedOf t → x ≡ y
-date-of-one t x y p q = cc
-
-pub is-end-one : (t : Text) (x y : Bool) → x ≡ isEnd t → y ≡ isEnd t → x ≡ y
-is-end-one t x y p q = cc
-
-pub end-of-one : (t : Text) (x y : Dated) → x ≡ endedOf t → y ≡ endedOf t → x ≡ y
-end-of-one t x y p q = cc
 
 pub key-of-one : (u d v : Text) (x y : Key) → x .bytes ≡ keyOf u d v → y .bytes ≡ keyOf u d v → x ≡ y
 key-of-one u d v x y p q = ap (λ (b : Text). record { bytes = b }) (p ∙ sym q)

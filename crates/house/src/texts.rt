@@ -1,12 +1,11 @@
 // Texts: the order of bytes, padded codes, digits.
 use crate::Order;
 ghost use mathlib.Core.Path.{_≡_};
-ghost use mathlib.Core.Bool.{true};
 ghost use mathlib.Core.Logic.{_⊎_};
 ghost use mathlib.Core.List.{[]};
 ghost use Prim.Native.Nat.{_≤_};
 ghost use lib.ListN.{length, drop, getD};
-ghost use Rattle.house.specs.Text.{all, isBlank, digits, number, graphicLen, isPadded, pad, orderOf, below, same};
+ghost use Rattle.house.specs.Text.{all, isBlank, digits, graphicLen, isPadded, pad, orderOf, below, same};
 
 // The lesser of two numbers.
 fn lesser(m: usize, n: usize) -> usize
@@ -221,20 +220,4 @@ pub fn all_digits(text: &[u8]) -> bool
         i += 1;
     }
     true
-}
-
-// The number that up to eight digits write.
-pub(crate) fn number_of(text: &[u8]) -> u32
-    requires { ⌜ length (now text) ≤ 8 ⌝ }
-    requires { ⌜ digits (now text) ≡ true ⌝ }
-    ensures { λ r. ⌜ r ≡ number (now (text .entry)) ⌝ }
-{
-    let mut v: u32 = 0;
-    let mut i = 0;
-    while i < text.len() {
-        let d = (text[i] - 48) as u32;
-        v = v * 10 + d;
-        i += 1;
-    }
-    v
 }

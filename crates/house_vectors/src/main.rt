@@ -1,7 +1,7 @@
 // Runs the house records on the vectors of its standard input, and prints what they answer. A case is four parts: one byte that says what
 // is asked, and three texts.
-use house::Date;
-use house::Dated;
+use dates::Date;
+use dates::Dated;
 use house::Key;
 use house::Order;
 

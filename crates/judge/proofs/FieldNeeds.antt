@@ -11,7 +11,7 @@ use borrow.Author.Tests.{le-leb, leb-true, le-ltb}
 use lib.Dec.{eqb, ltb, leb}
 use lib.ListN.{length}
 use Rattle.house.specs.Text.{Text, bytes, same, all, run, within, number, isEmpty, isDigit}
-use Rattle.house.specs.Dates.{isDate}
+use Rattle.dates.specs.Dates.{isDate}
 use Rattle.house.proofs.Small.{both, clash}
 use Rattle.lines.specs.Lines.{fieldOf}
 use Rattle.lines.specs.Records.{Rec, IV, IP, II, recordOf, recOf}

@@ -12,7 +12,7 @@ use lib.ListN.{length, take, drop, length-drop}
 use lib.Seq.{length-take-le}
 use Rattle.house.specs.Text.{Text, all, digits, number, isDigit, front, count, within}
 use Rattle.house.specs.Key.{keyOf}
-use Rattle.house.specs.Dates.{isDate, isDay}
+use Rattle.dates.specs.Dates.{isDate, isDay}
 use Rattle.house.proofs.Small.{both, clash}
 use Rattle.lines.specs.declared.LineAt.{LineAt}
 use Rattle.lines.specs.Lines.{LineIs, fieldOf, fieldsOf}

@@ -7,7 +7,7 @@ use mathlib.Core.List.{List, [], _∷_}
 use Prim.Native.Nat.{ℕ}
 use borrow.Author.Needs.{needs}
 use Rattle.house.specs.Text.{Text, any, those, isEmpty, pad}
-use Rattle.house.specs.Dates.{isDate}
+use Rattle.dates.specs.Dates.{isDate}
 use Rattle.house.proofs.Small.{both, clash}
 use Rattle.lines.specs.Lines.{fieldOf}
 use Rattle.lines.specs.Records.{Rec, II, isKind, recordOf, recOf, recs}

@@ -11,13 +11,13 @@ use borrow.Author.Tests.{eq-eqb, ne-eqb, le-leb, lt-leb}
 use lib.Dec.{eqb}
 use lib.ListN.{length, take, drop, getD, length-drop, length-map, drop-of-length-le}
 use lib.Seq.{drop-cons, length-take-le, take-all}
-use Rattle.house.specs.declared.Date.{Date}
-use Rattle.house.specs.declared.Dated.{Dated}
-use Rattle.house.specs.declared.Dated.the-variants.{Day, NoDate}
+use Rattle.dates.specs.declared.Date.{Date}
+use Rattle.dates.specs.declared.Dated.{Dated}
+use Rattle.dates.specs.declared.Dated.the-variants.{Day, NoDate}
 use Rattle.house.specs.Text.{Text, all, those, adjacent, chained, below, run, digits, isPadded}
-use Rattle.house.specs.Dates.{datedOf}
+use Rattle.dates.specs.Dates.{datedOf}
 use Rattle.house.proofs.Suffix.{drop-here, drop-past}
-use Rattle.house.proofs.DateLaws.{dated-true, dated-false}
+use Rattle.dates.proofs.DateLaws.{dated-true, dated-false}
 use Rattle.ledger.specs.declared.Validity.{Validity}
 use Rattle.ledger.specs.declared.Validity.the-variants.{Sound, Malformed}
 use Rattle.ledger.specs.Ledger.{slotsIn, slots, eventForm, isLiveSlot, isFreeSlot, slotForm, slotFollows, ledgerOk, liveIn, validOf}

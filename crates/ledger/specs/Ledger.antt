@@ -8,7 +8,7 @@ use mathlib.Core.List.{List, [], _∷_, _++_, map}
 use lib.ListN.{length, getD, take, drop, replicate}
 use lib.Dec.{eqb, leb}
 use Rattle.house.specs.Text.{Text, any, all, those, joined, adjacent, orderOf, same, below, run, isDigit, isPadded}
-use Rattle.house.specs.Dates.{isDate}
+use Rattle.dates.specs.Dates.{isDate}
 use Rattle.house.specs.Search.{halve}
 use Rattle.events.specs.Events.{eventsAt, ascends}
 use Rattle.ledger.specs.declared.Validity.{Validity}

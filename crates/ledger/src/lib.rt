@@ -1,6 +1,6 @@
 // The ledger: its form, the look-up of an event, and what an accepted file does to it.
-use house::Date;
-use house::Dated;
+use dates::Date;
+use dates::Dated;
 use house::Order;
 ghost use mathlib.Core.Path.{_≡_};
 ghost use mathlib.Core.Bool.{true, false};

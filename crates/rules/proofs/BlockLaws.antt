@@ -11,7 +11,7 @@ use lib.Dec.{T, T-not, not-T, eqb, leb, eqb→eq, eqb-refl, leb→le}
 use borrow.Author.Tests.{leb-true, leb-false}
 use Rattle.house.specs.Text.{Text, same, any, all, those, run, within, isDigit, isGraphic, isEmpty, digits, number, pad, isPadded}
 use Rattle.house.specs.Members.{In, Distinct}
-use Rattle.house.specs.Dates.{isDate, isDay}
+use Rattle.dates.specs.Dates.{isDate, isDay}
 use Rattle.house.specs.Key.{keyOf}
 use Rattle.house.proofs.Facts.{both, both-of, either, left-of, of-true, is-true}
 use Rattle.house.proofs.Members.{in-those, in-map, any-in, distinct-fewer, same-one}

@@ -2,7 +2,7 @@
 -- Assumes nothing.
 use mathlib.Core.Path.{refl}
 use Rattle.rules.specs.Edges.{EdgesHold}
-use Rattle.house.specs.Dates.{isLeap, daysIn, isDay, isDate, isEnd}
+use Rattle.dates.specs.Dates.{isLeap, daysIn, isDay, isDate, isEnd}
 use Rattle.house.specs.Key.{keyOf}
 use Rattle.house.specs.Text.{orderOf, below, same, isDigit, isLetter, isLetterOrDigit, isGraphic, run, digits, number, pad, graphicLen, isPadded}
 use Rattle.lines.specs.Lines.{lfNext, endingOf, grow, byEnding, linesOf, lineOf, textLen, lineLen, lengthen, fieldsOf, fieldOf}

@@ -6,7 +6,7 @@ use mathlib.Core.List.{List, [], _∷_}
 use lib.ListN.{length, getD}
 use lib.Dec.{eqb, ltb}
 use Rattle.house.specs.Text.{Text, bytes, any, front, behind, isEmpty, same, oneOf, within, isDigit, isLetter, isLetterOrDigit, isGraphic, isBlank, run, number}
-use Rattle.house.specs.Dates.{isDate}
+use Rattle.dates.specs.Dates.{isDate}
 use Rattle.lines.specs.Records.{Rec, IV, IH, IP, II, IE, IN, IA, IF}
 
 -- The text of field f as judged, counted from 1; empty where the line has none. (Change request 4 drops blanks here.)

@@ -2,7 +2,7 @@
 -- Assumes nothing.
 use mathlib.Core.Path.{_≡_, sym, _∙_}
 use Rattle.house.specs.Text.{Text}
-use Rattle.house.specs.Dates.{isDate}
+use Rattle.dates.specs.Dates.{isDate}
 use Rattle.rules.specs.Forms.{isPrefix, isBatch, isTotal, isNumber, isUli, isType, isHistorical, isCode, isSiteText, isMethodText, isReason, isDosage, isDosageType, isManufacturer, isLot, isCount, isReasonNot, isOrganization, isGrade}
 use Rattle.texts.specs.Leaves.{valueOf}
 

@@ -1,110 +1,17 @@
 // The forms of fields, as tests on texts.
+use classes::DIGITS;
+use classes::GRAPHIC;
+use classes::LETTERS;
+use classes::LETTERS_DIGITS;
+use classes::LOT_BYTES;
 ghost use mathlib.Core.Path.{_≡_};
 ghost use mathlib.Core.Bool.{true};
 ghost use Prim.Native.Nat.{_≤_};
 ghost use lib.ListN.{length};
-ghost use Rattle.house.specs.Text.{all, any, run, within, digits, number, isDigit, isLetter, isLetterOrDigit, isGraphic};
-ghost use Rattle.house.specs.Dates.{isDate};
-ghost use Rattle.rules.specs.Forms.{isPrefix, isBatch, isTotal, countForm, isNumber, isUli, isType, isHistorical, isCode, isSiteText, isMethodText, isReason, isFraction, isDosage, isDosageType, isManufacturer, lotByte, isLot, isCount, isReasonNot, isOrganization, isGrade};
-ghost use Rattle.texts.specs.Leaves.{inClass, valueOf, digitsLen};
-
-// The classes of bytes.
-const DIGITS: u8 = 1;
-
-const LETTERS: u8 = 2;
-
-const LETTERS_DIGITS: u8 = 3;
-
-const LOT_BYTES: u8 = 4;
-
-const GRAPHIC: u8 = 5;
-
-fn is_digit(b: u8) -> bool
-    ensures { λ r. ⌜ r ≡ isDigit b ⌝ }
-{
-    match b {
-        b'0'..=b'9' => true,
-        _ => false,
-    }
-}
-
-fn is_letter(b: u8) -> bool
-    ensures { λ r. ⌜ r ≡ isLetter b ⌝ }
-{
-    match b {
-        b'A'..=b'Z' => true,
-        b'a'..=b'z' => true,
-        _ => false,
-    }
-}
-
-fn is_letter_or_digit(b: u8) -> bool
-    ensures { λ r. ⌜ r ≡ isLetterOrDigit b ⌝ }
-{
-    if is_letter(b) { true } else { is_digit(b) }
-}
-
-// Letters, digits and dashes.
-fn is_lot_byte(b: u8) -> bool
-    ensures { λ r. ⌜ r ≡ lotByte b ⌝ }
-{
-    if is_letter_or_digit(b) {
-        true
-    } else {
-        b == b'-'
-    }
-}
-
-// A byte that shows and is no blank.
-fn is_graphic(b: u8) -> bool
-    ensures { λ r. ⌜ r ≡ isGraphic b ⌝ }
-{
-    match b {
-        33..=126 => true,
-        _ => false,
-    }
-}
-
-// Whether a byte is of a class.
-fn in_class(class: u8, b: u8) -> bool
-    ensures { λ r. ⌜ r ≡ inClass class b ⌝ }
-{
-    match class {
-        DIGITS => is_digit(b),
-        LETTERS => is_letter(b),
-        LETTERS_DIGITS => is_letter_or_digit(b),
-        LOT_BYTES => is_lot_byte(b),
-        _ => is_graphic(b),
-    }
-}
-
-// Whether each byte of a text is of a class.
-fn all_in(t: &[u8], class: u8) -> bool
-    ensures { λ r. ⌜ r ≡ all (inClass class) (now (t .entry)) ⌝ }
-{
-    let mut i = 0;
-    while i < t.len() {
-        if in_class(class, t[i]) {
-            i += 1;
-        } else {
-            return false;
-        }
-    }
-    true
-}
-
-// Whether a text has from lo to hi bytes, each of a class.
-fn run_in(t: &[u8], lo: usize, hi: usize, class: u8) -> bool
-    ensures { λ r. ⌜ r ≡ run lo hi (inClass class) (now (t .entry)) ⌝ }
-{
-    if t.len() < lo {
-        return false;
-    }
-    if hi < t.len() {
-        return false;
-    }
-    all_in(t, class)
-}
+ghost use Rattle.house.specs.Text.{any, within, digits, number};
+ghost use Rattle.dates.specs.Dates.{isDate};
+ghost use Rattle.rules.specs.Forms.{isPrefix, isBatch, isTotal, countForm, isNumber, isUli, isType, isHistorical, isCode, isSiteText, isMethodText, isReason, isFraction, isDosage, isDosageType, isManufacturer, isLot, isCount, isReasonNot, isOrganization, isGrade};
+ghost use Rattle.texts.specs.Leaves.{valueOf, digitsLen};
 
 // The number that at most nine digits write.
 fn number_of(t: &[u8]) -> u32
@@ -126,7 +33,7 @@ fn number_of(t: &[u8]) -> u32
 pub fn value(t: &[u8]) -> u32
     ensures { λ r. ⌜ r ≡ valueOf (now (t .entry)) ⌝ }
 {
-    if run_in(t, 1, 9, DIGITS) {
+    if classes::run_in(t, 1, 9, DIGITS) {
         number_of(t)
     } else {
         0
@@ -138,7 +45,7 @@ fn is_positive(t: &[u8], most: usize) -> bool
     requires { ⌜ most ≤ 9 ⌝ }
     ensures { λ r. ⌜ r ≡ countForm most (now (t .entry)) ⌝ }
 {
-    if run_in(t, 1, most, DIGITS) {
+    if classes::run_in(t, 1, most, DIGITS) {
         0 < value(t)
     } else {
         false
@@ -149,21 +56,21 @@ fn is_positive(t: &[u8], most: usize) -> bool
 pub fn is_prefix(t: &[u8]) -> bool
     ensures { λ r. ⌜ r ≡ isPrefix (now (t .entry)) ⌝ }
 {
-    run_in(t, 1, 3, LETTERS_DIGITS)
+    classes::run_in(t, 1, 3, LETTERS_DIGITS)
 }
 
 // IH 3: 1 to 10 letters or digits.
 pub fn is_batch(t: &[u8]) -> bool
     ensures { λ r. ⌜ r ≡ isBatch (now (t .entry)) ⌝ }
 {
-    run_in(t, 1, 10, LETTERS_DIGITS)
+    classes::run_in(t, 1, 10, LETTERS_DIGITS)
 }
 
 // IF 2: 1 to 10 digits.
 pub fn is_total(t: &[u8]) -> bool
     ensures { λ r. ⌜ r ≡ isTotal (now (t .entry)) ⌝ }
 {
-    run_in(t, 1, 10, DIGITS)
+    classes::run_in(t, 1, 10, DIGITS)
 }
 
 // Field 2 of IP, II, IE, IN, IA: 1 to 5 digits, at least 1.
@@ -177,17 +84,17 @@ pub fn is_number(t: &[u8]) -> bool
 pub fn is_uli(t: &[u8]) -> bool
     ensures { λ r. ⌜ r ≡ isUli (now (t .entry)) ⌝ }
 {
-    run_in(t, 9, 9, DIGITS)
+    classes::run_in(t, 9, 9, DIGITS)
 }
 
 // IP 25, II 6, IN 5: a date.
 pub fn is_date(t: &[u8]) -> bool
     ensures { λ r. ⌜ r ≡ isDate (now (t .entry)) ⌝ }
 {
-    let d = house::Date::of(t);
+    let d = dates::Date::of(t);
     match d {
-        house::Dated::Day(_) => true,
-        house::Dated::NoDate => false,
+        dates::Dated::Day(_) => true,
+        dates::Dated::NoDate => false,
     }
 }
 
@@ -218,21 +125,21 @@ pub fn is_historical(t: &[u8]) -> bool
 pub fn is_code(t: &[u8]) -> bool
     ensures { λ r. ⌜ r ≡ isCode (now (t .entry)) ⌝ }
 {
-    run_in(t, 1, 20, GRAPHIC)
+    classes::run_in(t, 1, 20, GRAPHIC)
 }
 
 // II 9: 1 to 4 letters.
 pub fn is_site_text(t: &[u8]) -> bool
     ensures { λ r. ⌜ r ≡ isSiteText (now (t .entry)) ⌝ }
 {
-    run_in(t, 1, 4, LETTERS)
+    classes::run_in(t, 1, 4, LETTERS)
 }
 
 // II 10: 1 to 3 letters.
 pub fn is_method_text(t: &[u8]) -> bool
     ensures { λ r. ⌜ r ≡ isMethodText (now (t .entry)) ⌝ }
 {
-    run_in(t, 1, 3, LETTERS)
+    classes::run_in(t, 1, 3, LETTERS)
 }
 
 // II 11: one or two digits, or a blank and a digit.
@@ -240,15 +147,15 @@ pub fn is_reason(t: &[u8]) -> bool
     ensures { λ r. ⌜ r ≡ isReason (now (t .entry)) ⌝ }
 {
     if t.len() == 1 {
-        return is_digit(t[0]);
+        return classes::is_digit(t[0]);
     }
     if t.len() != 2 {
         return false;
     }
     if t[0] == b' ' {
-        return is_digit(t[1]);
+        return classes::is_digit(t[1]);
     }
-    all_in(t, DIGITS)
+    classes::all_in(t, DIGITS)
 }
 
 // How many digits a text starts with.
@@ -258,7 +165,7 @@ fn digits_len(t: &[u8]) -> usize
 {
     let mut i = 0;
     while i < t.len() {
-        if is_digit(t[i]) {
+        if classes::is_digit(t[i]) {
             i += 1;
         } else {
             return i;
@@ -277,7 +184,7 @@ fn is_fraction(t: &[u8]) -> bool
     if t[0] != b'.' {
         return false;
     }
-    run_in(&t[1..], 1, 2, DIGITS)
+    classes::run_in(&t[1..], 1, 2, DIGITS)
 }
 
 // A digit that is not 0.
@@ -326,21 +233,21 @@ pub fn is_dosage(t: &[u8]) -> bool
 pub fn is_dosage_type(t: &[u8]) -> bool
     ensures { λ r. ⌜ r ≡ isDosageType (now (t .entry)) ⌝ }
 {
-    run_in(t, 1, 4, LETTERS)
+    classes::run_in(t, 1, 4, LETTERS)
 }
 
 // II 14: 1 to 3 letters.
 pub fn is_manufacturer(t: &[u8]) -> bool
     ensures { λ r. ⌜ r ≡ isManufacturer (now (t .entry)) ⌝ }
 {
-    run_in(t, 1, 3, LETTERS)
+    classes::run_in(t, 1, 3, LETTERS)
 }
 
 // II 15: 1 to 20 letters, digits or dashes.
 pub fn is_lot(t: &[u8]) -> bool
     ensures { λ r. ⌜ r ≡ isLot (now (t .entry)) ⌝ }
 {
-    run_in(t, 1, 20, LOT_BYTES)
+    classes::run_in(t, 1, 20, LOT_BYTES)
 }
 
 // IE 5: 1 or 2 digits, at least 1.
@@ -354,19 +261,19 @@ pub fn is_count(t: &[u8]) -> bool
 pub fn is_reason_not(t: &[u8]) -> bool
     ensures { λ r. ⌜ r ≡ isReasonNot (now (t .entry)) ⌝ }
 {
-    run_in(t, 1, 3, LETTERS)
+    classes::run_in(t, 1, 3, LETTERS)
 }
 
 // IN 7: 1 to 4 digits.
 pub fn is_organization(t: &[u8]) -> bool
     ensures { λ r. ⌜ r ≡ isOrganization (now (t .entry)) ⌝ }
 {
-    run_in(t, 1, 4, DIGITS)
+    classes::run_in(t, 1, 4, DIGITS)
 }
 
 // IN 8: 1 or 2 letters or digits.
 pub fn is_grade(t: &[u8]) -> bool
     ensures { λ r. ⌜ r ≡ isGrade (now (t .entry)) ⌝ }
 {
-    run_in(t, 1, 2, LETTERS_DIGITS)
+    classes::run_in(t, 1, 2, LETTERS_DIGITS)
 }

@@ -11,7 +11,7 @@ use lib.Dec.{ltb}
 use borrow.Author.Tests.{ltb-true, ltb-false, lt-ltb, le-ltb}
 use Rattle.house.specs.Text.{isEmpty}
 use Rattle.house.specs.Members.{In}
-use Rattle.house.specs.Dates.{isDay}
+use Rattle.dates.specs.Dates.{isDay}
 use Rattle.house.proofs.Small.{clash}
 use Rattle.lines.specs.Shape.{shapeOf}
 use Rattle.lines.specs.declared.Shape.{Shape}

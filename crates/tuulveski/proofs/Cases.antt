@@ -13,7 +13,7 @@ use Rattle.rules.specs.Seen.{Setting}
 use Rattle.rules.specs.Blocks.{adds, changes, deletes}
 use Rattle.tuulveski.specs.Examples.{CasesHold, on, zeros, eventOn}
 use Rattle.answers.specs.declared.Answer.the-variants.{Accepted, Shape}
-use Rattle.house.specs.Dates.{isLeap, daysIn, isDay, isDate, isEnd}
+use Rattle.dates.specs.Dates.{isLeap, daysIn, isDay, isDate, isEnd}
 use Rattle.house.specs.Key.{keyOf}
 use Rattle.house.specs.Text.{orderOf, below, same, isDigit, isLetter, isLetterOrDigit, isGraphic, run, digits, number, pad, graphicLen, isPadded}
 use Rattle.lines.specs.Lines.{lfNext, endingOf, grow, byEnding, linesOf, lineOf, textLen, lineLen, lengthen, fieldsOf, fieldOf}

@@ -12,7 +12,7 @@ use Rattle.house.specs.Text.{Text, count, isEmpty}
 use Rattle.house.specs.Members.{In, Distinct}
 use Rattle.house.proofs.Facts.{of-true, is-true}
 use Rattle.house.proofs.Small.{clash}
-use Rattle.house.specs.Dates.{isDay}
+use Rattle.dates.specs.Dates.{isDay}
 use Rattle.lines.specs.Shape.{shapeOf}
 use Rattle.lines.specs.declared.Shape.{Shape}
 use Rattle.lines.specs.declared.Shape.the-variants.{Right, Fault}

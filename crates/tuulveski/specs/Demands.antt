@@ -10,7 +10,7 @@ use lib.ListN.{length, getD}
 use lib.Dec.{T}
 use Rattle.house.specs.Text.{Text, count}
 use Rattle.house.specs.Members.{In, Distinct}
-use Rattle.house.specs.Dates.{isDay}
+use Rattle.dates.specs.Dates.{isDay}
 use Rattle.lines.specs.Shape.{shapeOf}
 use Rattle.lines.specs.declared.Shape.{Shape}
 use Rattle.lines.specs.declared.Shape.the-variants.{Right, Fault}

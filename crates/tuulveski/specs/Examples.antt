@@ -7,7 +7,7 @@ use mathlib.Core.Bool.{Bool, true, not, _&&_}
 use mathlib.Core.List.{List, [], _∷_, _++_}
 use lib.ListN.{replicate}
 use Rattle.house.specs.Text.{Text, bytes, same, all}
-use Rattle.house.specs.Dates.{isDate, isDay}
+use Rattle.dates.specs.Dates.{isDate, isDay}
 use Rattle.house.specs.Key.{keyOf}
 use Rattle.lines.specs.Records.{II, recOf}
 use Rattle.rules.specs.Forms.{formOf}

@@ -8,13 +8,13 @@ use native.Mathlib.Omega.{arith}
 use borrow.Author.Needs.{needs}
 use borrow.Author.Tests.{eq-eqb, ne-eqb, lt-ltb, le-ltb}
 use lib.Dec.{ltb}
-use Rattle.house.specs.declared.Date.{Date}
-use Rattle.house.specs.declared.Dated.{Dated}
-use Rattle.house.specs.declared.Dated.the-variants.{Day, NoDate}
+use Rattle.dates.specs.declared.Date.{Date}
+use Rattle.dates.specs.declared.Dated.{Dated}
+use Rattle.dates.specs.declared.Dated.the-variants.{Day, NoDate}
 use Rattle.house.specs.Text.{Text, any, isEmpty, same, number}
-use Rattle.house.specs.Dates.{isDate, datedOf}
+use Rattle.dates.specs.Dates.{isDate, datedOf}
 use Rattle.house.proofs.Small.{clash}
-use Rattle.house.proofs.DateLaws.{dated-true, dated-false}
+use Rattle.dates.proofs.DateLaws.{dated-true, dated-false}
 use Rattle.lines.specs.Lines.{fieldOf}
 use Rattle.lines.specs.Records.{Rec, IP, recOf}
 use Rattle.rules.specs.Forms.{formOf, isUli, isJudged, isSound}

@@ -57,10 +57,10 @@ pub fn uli_rule(kind: u8, t: &[u8], ip: &[u8]) -> u8
 fn day_later(t: &[u8], today: u32) -> u8
     ensures { λ r. ⌜ r ≡ dayLater (now (t .entry)) today ⌝ }
 {
-    let d = house::Date::of(t);
+    let d = dates::Date::of(t);
     match d {
-        house::Dated::Day(day) => { if today < day.number { 8 } else { 0 } }
-        house::Dated::NoDate => 0,
+        dates::Dated::Day(day) => { if today < day.number { 8 } else { 0 } }
+        dates::Dated::NoDate => 0,
     }
 }
 
@@ -79,10 +79,10 @@ pub fn day_rule(t: &[u8], today: u32) -> u8
 pub fn born(ip: &[u8]) -> u32
     ensures { λ r. ⌜ r ≡ bornOf (recOf (now (ip .entry))) ⌝ }
 {
-    let d = house::Date::of(lines::field_of(ip, 25));
+    let d = dates::Date::of(lines::field_of(ip, 25));
     match d {
-        house::Dated::Day(day) => day.number,
-        house::Dated::NoDate => 0,
+        dates::Dated::Day(day) => day.number,
+        dates::Dated::NoDate => 0,
     }
 }
 
@@ -90,16 +90,16 @@ pub fn born(ip: &[u8]) -> u32
 fn date_later(t: &[u8], today: u32, born: u32) -> u8
     ensures { λ r. ⌜ r ≡ dateLater (now (t .entry)) today born ⌝ }
 {
-    let d = house::Date::of(t);
+    let d = dates::Date::of(t);
     match d {
-        house::Dated::Day(day) => {
+        dates::Dated::Day(day) => {
             let n = day.number;
             if today < n {
                 return 8;
             }
             if n < born { 8 } else { 0 }
         }
-        house::Dated::NoDate => 0,
+        dates::Dated::NoDate => 0,
     }
 }
 

@@ -1,6 +1,6 @@
 -- `texts::forms::any_above_zero` meets its contract.
 -- Assumes nothing.
-use Rattle.texts.proofs.TextNeeds.{for-bytes}
+use Rattle.texts.proofs.TextNeeds.{for-any}
 use mathlib.Core.Path.{_≡_}
 use Prim.Native.Nat.{_-_}
 use lib.ListN.{length, drop}
@@ -20,11 +20,11 @@ any-above-zero-spec =
     (tie.spec
     Inv-loop
     μ-loop
-    (λ c. search for-bytes)
-    (λ c. search for-bytes)
-    (λ c. search for-bytes)
-    (λ c. search for-bytes)
-    (λ c. search for-bytes)
-    (λ c. search for-bytes)
-    (λ c. search for-bytes)
-    (λ c. search for-bytes))
+    (λ c. search for-any)
+    (λ c. search for-any)
+    (λ c. search for-any)
+    (λ c. search for-any)
+    (λ c. search for-any)
+    (λ c. search for-any)
+    (λ c. search for-any)
+    (λ c. search for-any))

@@ -1,6 +1,6 @@
 -- `texts::forms::is_above_zero` meets its contract.
 -- Assumes nothing.
-use Rattle.texts.proofs.TextNeeds.{for-byte}
+use Rattle.texts.proofs.TextNeeds.{for-above}
 use Rattle.texts.proofs.forms.is_above_zero.Statement.{statement}
 use Rattle.texts.proofs.forms.is_above_zero.Tie as tie
 
@@ -8,6 +8,6 @@ pub is-above-zero-spec : {M : Type 1} → statement M
 is-above-zero-spec =
     tie.close
     (tie.spec
-    (λ c. search for-byte)
-    (λ c. search for-byte)
-    (λ c. search for-byte))
+    (λ c. search for-above)
+    (λ c. search for-above)
+    (λ c. search for-above))

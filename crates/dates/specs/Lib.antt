@@ -1,0 +1,3 @@
+-- What a reader must believe of dates.
+-- Assumes nothing.
+pub mod Dates
