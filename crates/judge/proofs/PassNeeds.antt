@@ -15,7 +15,7 @@ use Rattle.house.specs.Key.{keyOf}
 use Rattle.dates.specs.Dates.{isDate, isDay}
 use Rattle.house.proofs.Small.{both, clash}
 use Rattle.lines.specs.declared.LineAt.{LineAt}
-use Rattle.lines.specs.Lines.{LineIs, fieldOf, fieldsOf}
+use Rattle.lines.specs.Lines.{LineIs, fieldOf, fieldsOf, fieldsLen}
 use Rattle.lines.specs.Records.{Rec, II, IE, IN, IA, isKind, recordOf, recOf, recs}
 use Rattle.lines.specs.Inside.{part, whole}
 use Rattle.lines.proofs.FieldLaws.{fields-few}
@@ -28,7 +28,8 @@ use Rattle.rules.specs.Codes.{dayField, dayIsSound, recordDay}
 use Rattle.rules.specs.Findings.{fieldsFindings}
 use Rattle.texts.specs.Leaves.{valueOf}
 use Rattle.verdicts.specs.Later.{bornOf}
-use Rattle.forms.proofs.FieldLaws.{text-is}
+use Rattle.forms.specs.Leaves.{soundAs}
+use Rattle.forms.proofs.FieldLaws.{text-is, sound-as, field-behind}
 use Rattle.forms.proofs.SoundLaws.{ii-6, in-5}
 use Rattle.index.specs.Firsts.{foundBefore}
 use Rattle.book.specs.declared.Sections.{Sections}
@@ -45,9 +46,19 @@ use Rattle.judge.proofs.StepLaws.{holds-step}
 use Rattle.judge.proofs.FieldNeeds.{value-read}
 
 -- event_of
-pub event-is : (line a b c key : Text) → a ≡ fieldOf line 3 → b ≡ fieldOf line 6 → c ≡ fieldOf line 8 → key ≡ keyOf a b c → key ≡ eventOf (recOf line)
+pub event-is : (line u v w a b c key : Text) → u ≡ drop (fieldsLen 2 line) line → v ≡ drop (fieldsLen 3 u) u → w ≡ drop (fieldsLen 2 v) v
+    → a ≡ fieldOf u 1 → b ≡ fieldOf v 1 → c ≡ fieldOf w 1 → key ≡ keyOf a b c → key ≡ eventOf (recOf line)
 unfolding eventOf
-event-is line a b c key p q r e = e ∙ rw (p, q, r, text-is line 3, text-is line 6, text-is line 8)
+event-is line u v w a b c key x y z p q r e =
+    e
+    ∙ rw (
+      p ∙ field-behind line u 2 0 x,
+      q ∙ field-behind u v 3 0 y ∙ field-behind line u 2 3 x,
+      r ∙ field-behind v w 2 0 z ∙ field-behind u v 3 2 y ∙ field-behind line u 2 5 x,
+      text-is line 3,
+      text-is line 6,
+      text-is line 8,
+    )
 
 pub ruleset for-event-of = (needs, event-is)
 
@@ -68,9 +79,11 @@ module _ (file : Text) (index : List ℕ) (ledger : Text) (n : ℕ) (line : Text
 pub ruleset for-facts-of = (needs, facts-in, facts-out)
 
 -- day_in, day_of
-pub day-in-is : (kind : ℕ) (head : Text) (f : ℕ) (t : Text) (sound : Bool) (n : ℕ) → sound ≡ isSound kind (recOf head) f → t ≡ fieldOf head f → n ≡ valueOf t
+pub day-in-is : (kind : ℕ) (head : Text) (f : ℕ) (t : Text) (sound : Bool) (n : ℕ) → t ≡ fieldOf head f → sound ≡ soundAs kind (recOf head) f t → n ≡ valueOf t
     → _≡_ {A = Day} (record { sound = sound; number = n }) (dayIn kind head f)
-day-in-is kind head f t sound n p q r = rw (p, r, q, text-is head f)
+day-in-is kind head f t sound n q p r =
+    rw
+    (p ∙ ap (soundAs kind (recOf head) f) (q ∙ sym (text-is head f)) ∙ sound-as kind (recOf head) f, r, q, text-is head f)
 
 pub ruleset for-day-in = (needs, day-in-is)
 

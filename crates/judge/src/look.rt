@@ -11,14 +11,17 @@ ghost use Rattle.rules.specs.Blocks.{eventOf};
 ghost use Rattle.judge.specs.Walk.{factsBy, dayBy};
 ghost use Rattle.judge.specs.Fields.{dayIn};
 
-// The event that a line names.
+// The event that a line names: fields 3, 6 and 8, by going on from one to the next.
 fn event_of(line: &[u8]) -> [u8; 37]
     ensures { λ r. ⌜ r ≡ eventOf (recOf (now (line .entry))) ⌝ }
 {
+    let third = forms::behind(line, 2);
+    let sixth = forms::behind(third, 3);
+    let eighth = forms::behind(sixth, 2);
     let key = house::Key::of(
-        lines::field_of(line, 3),
-        lines::field_of(line, 6),
-        lines::field_of(line, 8),
+        lines::field_of(third, 1),
+        lines::field_of(sixth, 1),
+        lines::field_of(eighth, 1),
     );
     key.bytes
 }
@@ -58,8 +61,9 @@ pub(crate) fn facts_of(
 fn day_in(kind: u8, head: &[u8], f: usize) -> Day
     ensures { λ r. ⌜ r ≡ dayIn kind (now (head .entry)) f ⌝ }
 {
-    let sound = forms::is_sound(kind, head, f);
-    let number = texts::value(lines::field_of(head, f));
+    let t = lines::field_of(head, f);
+    let sound = forms::sound_text(kind, head, f, t);
+    let number = texts::value(t);
     Day { sound, number }
 }
 

@@ -12,4 +12,7 @@ event-of-spec =
     (λ c. search for-event-of)
     (λ c. search for-event-of)
     (λ c. search for-event-of)
+    (λ c. search for-event-of)
+    (λ c. search for-event-of)
+    (λ c. search for-event-of)
     (λ c. search for-event-of))
