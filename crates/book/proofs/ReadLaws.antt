@@ -1,7 +1,7 @@
 -- What the reader's answer says of the bytes from its position on.
 -- Assumes nothing.
 use mathlib.Core.Path.{_≡_, refl, sym, ap, _∙_}
-use mathlib.Core.Bool.{Bool, true, false, cond, _&&_}
+use mathlib.Core.Bool.{Bool, true, false, cond}
 use mathlib.Core.List.{[], _∷_}
 use Prim.Native.Nat.{ℕ, _+_, _-_, _≤_}
 use native.Mathlib.Omega.{arith}
@@ -12,7 +12,7 @@ use Rattle.house.proofs.Small.{clash}
 use Rattle.book.specs.declared.Position.{Position}
 use Rattle.book.specs.declared.Read.{Read}
 use Rattle.book.specs.declared.Read.the-variants as read
-use Rattle.book.specs.Book.{bodyWidth, entryOf, bodyForm, entryForm, isWhole, readAt}
+use Rattle.book.specs.Book.{bodyWidth, entryOf, entryForm, isWhole, readAt}
 use Rattle.book.proofs.EntryLaws.{form-is, whole-says}
 
 -- no entry was read: none of its form stands there

@@ -317,6 +317,3 @@ module _ (s : Text) (q : Sections) (h : Sound s q) (k : ℕ) (a b : Text) where
     module _ (p : Position) (z : f ≡ At p) where
       pub found-known : listed (bookOf s) k (codeText k a b) ≡ true
       found-known = look-known 0 (standingAt s 0 f) (stands 0) ∙ ap (λ (y : Found). saysKnown (standingAt s 0 y)) z ∙ in-or-out (inForceAt 0 (drop (p .at) s)) .0
-
-      pub found-in-force : (d : ℕ) → listedOn (bookOf s) d k (codeText k a b) ≡ inForceAt d (drop (p .at) s)
-      found-in-force d = look-in-force d (standingAt s d f) (stands d) ∙ ap (λ (y : Found). saysInForce (standingAt s d y)) z ∙ in-or-out (inForceAt d (drop (p .at) s)) .1

@@ -9,7 +9,7 @@ use lib.Dec.{eqb, leb}
 use Rattle.house.specs.Text.{Text, below, number, pad, orderOf}
 use Rattle.house.specs.declared.Order.{Order}
 use Rattle.dates.specs.Dates.{isDate, isEnd}
-use Rattle.book.specs.Book.{vaccine, firstWidth, secondWidth, startWidth, codeWidth, bodyWidth, Entry, entryOf, entries, codeOf, codeForm, bodyForm, entryForm, above, bytesBefore}
+use Rattle.book.specs.Book.{vaccine, firstWidth, secondWidth, startWidth, codeWidth, bodyWidth, Entry, entryOf, entries, codeOf, bodyForm, entryForm, above, bytesBefore}
 
 -- Validity, kind by kind
 

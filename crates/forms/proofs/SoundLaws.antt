@@ -6,9 +6,8 @@ use mathlib.Core.List.{[], _∷_}
 use Prim.Native.Nat.{ℕ}
 use Rattle.house.specs.Text.{Text, isEmpty, orderOf, same, run}
 use Rattle.dates.specs.Dates.{isDate}
-use Rattle.house.proofs.Small.{clash}
-use Rattle.lines.specs.Records.{Rec, IH, IP, II, IE, IN, IA, IF}
-use Rattle.rules.specs.Forms.{text, isPrefix, isBatch, isTotal, countForm, isNumber, isUli, isType, isHistorical, isCode, isSiteText, isMethodText, isReason, isDosage, isDosageType, isManufacturer, isLot, isCount, isReasonNot, isOrganization, isGrade, table, formOf, isJudged, isRelaxed, isOptional, isMissing, isMisformed, isSound, isGiven}
+use Rattle.lines.specs.Records.{Rec, IP, II, IE, IN, IA}
+use Rattle.rules.specs.Forms.{text, countForm, isNumber, isUli, isType, isCode, isSiteText, isMethodText, isReason, isDosage, isDosageType, isManufacturer, isLot, isReasonNot, table, formOf, isJudged, isRelaxed, isOptional, isMissing, isMisformed, isSound, isGiven}
 
 -- Of any field that is judged: an empty one is sound if it is optional, any other if it is of its form
 module _ (k : ℕ) (l : Rec) (f : ℕ) where
@@ -34,17 +33,6 @@ module _ (k : ℕ) (l : Rec) (f : ℕ) where
       go [] = sym e
       go (b ∷ t) = refl
 
-  -- rules 1 and 2 are never broken at once
-  pub missing-alone : isMissing k l f ≡ true → isMisformed k l f ≡ false
-  unfolding isMissing isMisformed
-  missing-alone h = go (isJudged k f && not (isOptional k l f)) (isEmpty (text l f)) (formOf k f (text l f)) h
-    where
-      go : (a e x : Bool) → a && e ≡ true → not x && not e ≡ false
-      go a true true h = refl
-      go a true false h = refl
-      go true false x h = clash (cc)
-      go false false x h = clash (cc)
-
   -- a field is given exactly if it is not empty and of its form
   pub given-by : isGiven k l f ≡ not (isEmpty (text l f)) && formOf k f (text l f)
   unfolding isGiven isSound isMissing isMisformed
@@ -61,18 +49,6 @@ module _ (k : ℕ) (l : Rec) (f : ℕ) where
 
 -- The mandatory fields
 module _ (l : Rec) where
-  pub ih-2 : isSound IH l 2 ≡ isPrefix (text l 2)
-  unfolding isJudged isOptional formOf table isPrefix run
-  ih-2 = sound-form IH l 2 refl refl refl
-
-  pub ih-3 : isSound IH l 3 ≡ isBatch (text l 3)
-  unfolding isJudged isOptional formOf table isBatch run
-  ih-3 = sound-form IH l 3 refl refl refl
-
-  pub if-2 : isSound IF l 2 ≡ isTotal (text l 2)
-  unfolding isJudged isOptional formOf table isTotal run
-  if-2 = sound-form IF l 2 refl refl refl
-
   pub ip-2 : isSound IP l 2 ≡ isNumber (text l 2)
   unfolding isJudged isOptional formOf table isNumber run countForm
   ip-2 = sound-form IP l 2 refl refl refl
@@ -117,10 +93,6 @@ module _ (l : Rec) where
   unfolding isJudged isOptional formOf table isCode run
   ie-4 = sound-form IE l 4 refl refl refl
 
-  pub ie-5 : isSound IE l 5 ≡ isCount (text l 5)
-  unfolding isJudged isOptional formOf table isCount run countForm
-  ie-5 = sound-form IE l 5 refl refl refl
-
   pub in-2 : isSound IN l 2 ≡ isNumber (text l 2)
   unfolding isJudged isOptional formOf table isNumber run countForm
   in-2 = sound-form IN l 2 refl refl refl
@@ -129,10 +101,6 @@ module _ (l : Rec) where
   unfolding isJudged isOptional formOf table isUli run
   in-3 = sound-form IN l 3 refl refl refl
 
-  pub in-4 : isSound IN l 4 ≡ isType (text l 4)
-  unfolding isJudged isOptional formOf table isType same orderOf
-  in-4 = sound-form IN l 4 refl refl refl
-
   pub in-5 : isSound IN l 5 ≡ isDate (text l 5)
   unfolding isJudged isOptional formOf table isDate
   in-5 = sound-form IN l 5 refl refl refl
@@ -140,10 +108,6 @@ module _ (l : Rec) where
   pub in-6 : isSound IN l 6 ≡ isReasonNot (text l 6)
   unfolding isJudged isOptional formOf table isReasonNot run
   in-6 = sound-form IN l 6 refl refl refl
-
-  pub in-7 : isSound IN l 7 ≡ isOrganization (text l 7)
-  unfolding isJudged isOptional formOf table isOrganization run
-  in-7 = sound-form IN l 7 refl refl refl
 
   pub ia-2 : isSound IA l 2 ≡ isNumber (text l 2)
   unfolding isJudged isOptional formOf table isNumber run countForm
@@ -185,12 +149,3 @@ module _ (l : Rec) where
   pub ii-15 : isSound II l 15 ≡ cond (isEmpty (text l 15)) (isRelaxed l) (isLot (text l 15))
   unfolding isJudged isOptional formOf table
   ii-15 = sound-by II l 15 refl
-
-  -- The fields that any record may leave empty
-  pub ii-5 : isSound II l 5 ≡ cond (isEmpty (text l 5)) true (isHistorical (text l 5))
-  unfolding isJudged isOptional formOf table
-  ii-5 = sound-by II l 5 refl
-
-  pub in-8 : isSound IN l 8 ≡ cond (isEmpty (text l 8)) true (isGrade (text l 8))
-  unfolding isJudged isOptional formOf table
-  in-8 = sound-by IN l 8 refl

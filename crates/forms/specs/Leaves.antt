@@ -3,9 +3,9 @@
 use Prim.Native.Nat.{ℕ}
 use mathlib.Core.Bool.{Bool, not, cond, _&&_, _||_}
 use lib.Dec.{eqb}
-use Rattle.house.specs.Text.{Text, bytes, within, isEmpty, same, number}
+use Rattle.house.specs.Text.{Text, bytes, within, isEmpty, same}
 use Rattle.lines.specs.Records.{Rec, II, IN}
-use Rattle.rules.specs.Forms.{text, formOf, isJudged, isRelaxed, isMissing, isMisformed}
+use Rattle.rules.specs.Forms.{formOf, isJudged, isRelaxed, isMissing, isMisformed}
 
 -- II 18 and 19 relax an event: "18 is neither empty nor AB, or 18 is empty and 19 is not"
 unfoldable pub refusedBy : Text → Text → Bool

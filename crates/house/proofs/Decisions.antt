@@ -44,18 +44,12 @@ module _ (a b : Text) where
   pub is-same-T : a ≡ b → T (same a b)
   is-same-T e = of-true (same a b) (is-same e)
 
-  pub same-false : same a b ≡ false → a ≡ b → ⊥
-  same-false f e = clash (cc (is-same e))
-
   pub not-same : (a ≡ b → ⊥) → same a b ≡ false
   not-same n = go (same a b) refl
     where
       go : (t : Bool) → same a b ≡ t → t ≡ false
       go true e = absurd (n (same-true e))
       go false e = refl
-
-pub same-refl : (a : Text) → T (same a a)
-same-refl a = is-same-T a a refl
 
 pub same-sym : (a b : Text) → same a b ≡ same b a
 unfolding same
@@ -93,14 +87,6 @@ below-any a b = go (orderOf a b) refl
     go Less e = inl (less-below a b e)
     go Same e = inr (inl (same-eq a b e))
     go More e = inr (inr (less-below b a (flip a b ∙ ap flipped e)))
-
-pub below-neither : (a b : Text) → (T (below a b) → ⊥) → (T (below b a) → ⊥) → a ≡ b
-below-neither a b n m = go (below-any a b)
-  where
-    go : T (below a b) ⊎ ((a ≡ b) ⊎ T (below b a)) → a ≡ b
-    go (inl t) = absurd (n t)
-    go (inr (inl e)) = e
-    go (inr (inr t)) = absurd (m t)
 
 -- what is not above is below or the same
 pub below-else : (a b : Text) → below a b ≡ false → (a ≡ b) ⊎ T (below b a)

@@ -7,7 +7,7 @@ use mathlib.Core.List.{List, [], _∷_}
 use Prim.Native.Nat.{ℕ, _≤_}
 use native.Mathlib.Omega.{arith}
 use borrow.Author.Tests.{ne-eqb}
-use lib.Dec.{T, eqb, ltb, eqb→eq}
+use lib.Dec.{T, ltb, eqb→eq}
 use lib.ListN.{length, drop}
 use Rattle.house.specs.Text.{Text, any, all, same, isGraphic}
 use Rattle.house.specs.Members.{In}
@@ -227,13 +227,3 @@ rule-15 f l before c = go (isInBlock l) refl
         named-firsts f l (of-true (isInBlock l) e) (beforeBlock l before) (passed-block f l before c)
         ∙ sym (named-behind f (eventOf l) (beforeBlock l before) (passed-block f l before c))
     go false e = refl
-
--- where a line's block starts: with the block that is open, or with the line
-pub block-start : (f : Text) (l : Rec) (before : List Rec)
-    → startAfter f (beforeBlock l before) ≡ cond (joinsOpen l before) (startAfter f (beforeOpen before)) (startAfter f before)
-unfolding beforeBlock
-block-start f l before = go (joinsOpen l before)
-  where
-    go : (b : Bool) → startAfter f (cond b (beforeOpen before) before) ≡ cond b (startAfter f (beforeOpen before)) (startAfter f before)
-    go true = refl
-    go false = refl

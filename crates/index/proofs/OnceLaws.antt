@@ -2,14 +2,14 @@
 -- Assumes nothing.
 use mathlib.Core.Path.{_≡_, refl, sym, ap, _∙_, subst}
 use mathlib.Core.Logic.{_⊎_, inl, inr}
-use mathlib.Core.Bool.{Bool, true, false, not, cond, _&&_, _||_}
+use mathlib.Core.Bool.{Bool, true, false, cond, _&&_, _||_}
 use mathlib.Core.List.{List, [], _∷_}
 use Prim.Native.Nat.{ℕ, _<_}
 use native.Mathlib.Omega.{arith}
 use borrow.Author.Tests.{ltb-true}
 use lib.Dec.{T, eqb, ltb, eqb→eq, eqb-refl}
 use lib.ListN.{length, getD, drop}
-use Rattle.house.specs.Text.{Text, any, same, below}
+use Rattle.house.specs.Text.{Text, any, same}
 use Rattle.house.specs.Members.{In}
 use Rattle.house.proofs.Small.{clash}
 use Rattle.house.proofs.Facts.{both, either, left-of, right-of, is-true, of-true}
@@ -19,7 +19,6 @@ use Rattle.events.specs.Events.{eventAt, eventsAt, ascends}
 use Rattle.events.specs.Inside.{Lt, Asc}
 use Rattle.events.proofs.Order.{all-at}
 use Rattle.events.proofs.SortedLaws.{ascends-asc}
-use Rattle.ledger.specs.Ledger.{Event}
 use Rattle.rules.specs.Places.{Place, placesIn}
 use Rattle.rules.specs.Blocks.{isInBlock, eventOf, joins, nearestOf, blockIn, openAfter, begins, beforeOpen, beforeBlock, isRepeated}
 use Rattle.index.specs.Firsts.{startAfter, indexOf, namedBefore}

@@ -9,7 +9,7 @@ use native.Mathlib.Omega.{arith}
 use borrow.Author.Needs.{needs}
 use lib.ListN.{length, getD, take, drop, set, length-set, take-append-drop}
 use lib.Seq.{drop-set-lt}
-use Rattle.house.specs.Text.{Text, those, same}
+use Rattle.house.specs.Text.{Text, same}
 use Rattle.house.proofs.Suffix.{drop-here, drop-past}
 use Rattle.lines.specs.declared.LineAt.{LineAt}
 use Rattle.lines.specs.Lines.{lineOf, fieldOf, LineIs}

@@ -3,7 +3,7 @@
 use mathlib.Core.Path.{_≡_, refl, sym, ap, _∙_, subst}
 use mathlib.Core.Bool.{Bool, true, false, not, cond}
 use mathlib.Core.List.{List, [], _∷_}
-use Prim.Native.Nat.{ℕ, zero, suc, _+_, _-_, _*_, _≤_, _<_}
+use Prim.Native.Nat.{ℕ, zero, suc, _+_, _*_, _≤_, _<_}
 use native.Mathlib.Omega.{arith}
 use borrow.Author.Tests.{eqb-true, eqb-false, ne-eqb}
 use lib.Dec.{T, eqb}
@@ -11,8 +11,8 @@ use lib.ListN.{length, getD, drop, length-drop, length-map}
 use Rattle.house.specs.Text.{Text, those, isEmpty}
 use Rattle.house.proofs.Small.{clash}
 use Rattle.lines.specs.declared.Shape.the-variants.{Right}
-use Rattle.lines.specs.Lines.{Line, pipe, endingOf, linesOf, lineOf, textLen, lineLen, lengthen, fieldsOf}
-use Rattle.lines.specs.Records.{Rec, II, IE, kindOf, recordOf, countOf, recOf, recs}
+use Rattle.lines.specs.Lines.{pipe, endingOf, linesOf, lineOf, textLen, lineLen, lengthen, fieldsOf}
+use Rattle.lines.specs.Records.{Rec, kindOf, recordOf, countOf, recOf, recs}
 use Rattle.lines.specs.Shape.{isOne, follows, shapeOf}
 use Rattle.lines.specs.Inside.{RightFrom, RightLine}
 use Rattle.lines.proofs.LineLaws.{line-le, lines-step, ended-is}
@@ -20,7 +20,7 @@ use Rattle.lines.proofs.ShapeLaws.{right-line, right-start}
 use Rattle.rules.specs.Forms.{fieldIn, text}
 use Rattle.rules.specs.Places.{Place, placesFrom, placesOf, placesIn}
 use Rattle.rules.specs.Blocks.{isInBlock, begins}
-use Rattle.rules.proofs.BlockLaws.{Named, named}
+use Rattle.rules.proofs.BlockLaws.{named}
 use Rattle.index.specs.Firsts.{isFirst, startOf, firstsOf}
 use Rattle.index.proofs.PassLaws.{by-lines, recs-first}
 use Rattle.index.proofs.NamedLaws.{uli-wide, date-wide, code-wide, is-II, begun}

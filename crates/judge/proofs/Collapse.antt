@@ -1,16 +1,15 @@
 -- Which rules remain at a field of a kind.
 -- Assumes nothing.
-use mathlib.Core.Path.{_≡_, refl, sym, ap, _∙_}
+use mathlib.Core.Path.{_≡_, refl}
 use mathlib.Core.Bool.{Bool, true, false, not, cond, _&&_, _||_}
 use mathlib.Core.List.{List, [], _∷_, _++_}
 use Prim.Native.Nat.{ℕ, _≤_}
 use native.Mathlib.Omega.{arith}
 use borrow.Author.Tests.{ne-eqb, leb-true}
 use lib.Dec.{eqb, leb}
-use lib.ListN.{drop}
-use Rattle.house.specs.Text.{Text, bytes, same, any, number, isEmpty}
+use Rattle.house.specs.Text.{bytes, same, any, number, isEmpty}
 use Rattle.house.proofs.Small.{clash}
-use Rattle.lines.specs.Records.{Rec, IV, IH, IP, II, IE, IN, IA, IF}
+use Rattle.lines.specs.Records.{Rec, IV, IP, II, IE, IN, IA}
 use Rattle.rules.specs.Forms.{text, formOf, isJudged, isOptional, isMissing, isMisformed, isSound, isGiven}
 use Rattle.rules.specs.Places.{isNumbered}
 use Rattle.rules.specs.Seen.{Setting, Seen}

@@ -13,7 +13,7 @@ use Rattle.house.proofs.Small.{clash}
 use Rattle.house.specs.Text.{Text}
 use Rattle.rules.specs.Findings.{Finding, found}
 use Rattle.later.specs.declared.Broken.{Broken}
-use Rattle.judge.specs.Inside.{Kept, kept, finding, put6, put, keep, some, listed}
+use Rattle.judge.specs.Inside.{kept, finding, put6, put, keep, some, listed}
 use Rattle.judge.proofs.KeepLaws.{keep-append}
 
 -- write6: the area is as long as before

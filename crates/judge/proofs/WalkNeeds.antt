@@ -1,13 +1,12 @@
 -- What each need of the functions of the walk asks.
 -- Assumes nothing.
-use mathlib.Core.Path.{_≡_, refl, sym, ap, _∙_}
-use mathlib.Core.Bool.{Bool, true, false, cond, _&&_}
-use mathlib.Core.List.{List, [], _∷_, _++_, append-nil, append-assoc}
+use mathlib.Core.Path.{_≡_, sym, _∙_}
+use mathlib.Core.Bool.{Bool, true, false}
+use mathlib.Core.List.{List, _++_, append-nil, append-assoc}
 use Prim.Native.Nat.{ℕ, _+_, _-_, _≤_, _<_}
 use native.Mathlib.Omega.{arith}
 use borrow.Author.Needs.{needs}
 use borrow.Author.Tests.{eq-eqb, ne-eqb, le-leb, lt-leb}
-use lib.Dec.{eqb}
 use lib.ListN.{length, take, drop}
 use Rattle.house.specs.Text.{Text, front}
 use Rattle.lines.specs.declared.LineAt.{LineAt}
@@ -23,7 +22,7 @@ use Rattle.judge.specs.declared.State.{State}
 use Rattle.judge.specs.declared.BlockAt.{BlockAt}
 use Rattle.later.specs.declared.Day.{Day}
 use Rattle.verdicts.specs.Later.{bornOf}
-use Rattle.judge.specs.Walk.{partOf, span, blockAt, OwnIs, headAt, nextPlace, nextOf, nextBorn, nextDay, nextKnown, nextSince, nextLast, nextRun, nextMany, nextFirst, nextIns, advanced}
+use Rattle.judge.specs.Walk.{partOf, span, blockAt, headAt, nextPlace, nextOf, nextBorn, nextDay, nextKnown, nextSince, nextLast, nextRun, nextMany, nextFirst, nextIns, advanced}
 use Rattle.judge.proofs.WalkLaws.{no-recs, kind-is, recs-next}
 
 -- next_place

@@ -24,7 +24,7 @@ ghost use mathlib.Core.Bool.{true};
 ghost use Prim.Native.Nat.{_+_, _*_, _^_, _≤_, _<_};
 ghost use lib.ListN.{length, take, drop};
 ghost use Rattle.house.specs.Text.{count, front};
-ghost use Rattle.lines.specs.Lines.{LineIs, fieldsOf};
+ghost use Rattle.lines.specs.Lines.{fieldsOf};
 ghost use Rattle.lines.specs.Records.{IE, IN, isKind, recordOf, recs};
 ghost use Rattle.lines.specs.Inside.{part, whole};
 ghost use Rattle.ledger.specs.Ledger.{foundIn};
@@ -34,7 +34,7 @@ ghost use Rattle.index.specs.Firsts.{indexOf, builtIn};
 ghost use Rattle.judge.specs.Inside.{kept, keep};
 ghost use Rattle.judge.specs.Look.{settingBy};
 ghost use Rattle.judge.specs.Fields.{Looks, Told};
-ghost use Rattle.judge.specs.Walk.{partOf, dayBy, Holds, BlockIs, OwnEnd, Ready, PartsIn, Serves, TurnIs, startState, headAt, span, seenWith};
+ghost use Rattle.judge.specs.Walk.{partOf, dayBy, Holds, OwnEnd, Ready, PartsIn, Serves, TurnIs, startState, headAt, span, seenWith};
 ghost use Rattle.judge.specs.Judged.{findingsBy, judgedOf, judgedArea};
 
 // Where the IE lines of an II that joins a block end, which start at a position; the position itself for any other line, of which nothing is

@@ -1,16 +1,16 @@
 -- The events after: which they are, how many of each sort, and that they ascend.
 -- Assumes nothing.
-use Prim.Native.Nat.{ℕ, zero, suc, _+_}
+use Prim.Native.Nat.{ℕ, suc, _+_}
 use native.Mathlib.Omega.{arith}
 use mathlib.Core.Path.{_≡_, refl, sym, ap, _∙_, subst}
-use mathlib.Core.Bool.{Bool, true, false, not, cond, _&&_, _||_}
+use mathlib.Core.Bool.{Bool, true, false, not, cond, _||_}
 use mathlib.Core.Logic.{_⊎_, inl, inr, ⊎-elim}
 use mathlib.Core.List.{List, [], _∷_}
 use lib.ListN.{length}
 use lib.Dec.{T, T-not, not-T}
-use Rattle.house.specs.Text.{Text, same, below, any, those, count}
+use Rattle.house.specs.Text.{same, below, any, those, count}
 use Rattle.house.specs.Members.{In, Distinct, Rising}
-use Rattle.house.proofs.Facts.{both, either, left-of, right-of, of-true}
+use Rattle.house.proofs.Facts.{either, left-of, right-of, of-true}
 use Rattle.house.proofs.Members.{in-those, those-in, distinct-those, rising-those, rising-distinct}
 use Rattle.house.proofs.Decisions.{same-is, is-same-T, below-asym, below-trans, below-else}
 use Rattle.ledger.specs.Ledger.{Event, isAmong, insert, plus, less, eventsAfter}

@@ -13,7 +13,7 @@ use lib.ListN.{length, take, drop, getD, set, length-append}
 use lib.Seq.{drop-cons, drop-drop, drop-set-lt, take-suc, take-suc-set, getD-drop, getD-take, length-take-le}
 use Rattle.house.specs.declared.Order.{Order}
 use Rattle.house.specs.declared.Order.the-variants.{Less, Same, More}
-use Rattle.house.specs.Text.{Text, below}
+use Rattle.house.specs.Text.{Text}
 use Rattle.house.proofs.Small.{clash, Three, lt, eq, gt, three}
 use Rattle.house.proofs.OrderAlgebra.{flip, flipped, same-eq}
 use Rattle.house.proofs.Decisions.{less-below}

@@ -1,21 +1,21 @@
 -- The ledger that holds a list of events: its length, what is live in it, that it is well formed; and what a well-formed ledger holds.
 -- Assumes nothing.
-use Prim.Native.Nat.{ℕ, zero, suc, _+_, _-_, _*_, _/_, _%_, _<_, _≤_}
-use native.Mathlib.Nat.{div-add-mod', mul-div-cancel, mul-mod-left}
+use Prim.Native.Nat.{ℕ, zero, suc, _+_, _-_, _*_, _/_, _%_, _≤_}
+use native.Mathlib.Nat.{div-add-mod'}
 use native.Mathlib.Omega.{arith}
 use mathlib.Core.Path.{_≡_, refl, sym, ap, ap₂, _∙_, subst}
-use mathlib.Core.Bool.{Bool, true, false, not, cond, _&&_, _||_}
-use mathlib.Core.Logic.{_⊎_, inl, inr, ⊎-elim}
+use mathlib.Core.Bool.{Bool, true, false, cond, _&&_}
+use mathlib.Core.Logic.{_⊎_, inl, inr}
 use mathlib.Core.List.{List, [], _∷_, _++_, map, append-assoc}
-use lib.ListN.{length, getD, take, drop, replicate, length-append, length-take, length-drop, length-replicate, replicate-append-replicate, take-append-drop}
+use lib.ListN.{length, take, drop, replicate, length-append, length-take, length-drop, length-replicate, replicate-append-replicate, take-append-drop}
 use lib.Seq.{take-at, drop-at}
-use lib.Dec.{T, eqb, leb, eqb→eq, eqb-refl, leb→le, le→leb}
+use lib.Dec.{T, eqb, leb, eqb→eq, leb→le, le→leb}
 use Rattle.house.specs.Text.{Text, orderOf, below, all, those, joined, chained, adjacent}
-use Rattle.house.specs.Members.{In, Distinct}
+use Rattle.house.specs.Members.{In}
 use Rattle.house.proofs.Facts.{both, both-of, of-true}
 use Rattle.house.proofs.Members.{in-those, in-map, all-in, one-rising}
 use Rattle.house.proofs.Decisions.{below-asym, below-trans}
-use Rattle.ledger.specs.Ledger.{Event, slotBytes, slotsMost, slotsIn, chop, slots, eventForm, isLiveSlot, isFreeSlot, slotForm, slotFollows, ledgerOk, liveIn, liveSlot, ledgerWith}
+use Rattle.ledger.specs.Ledger.{Event, slotsIn, chop, slots, eventForm, isLiveSlot, isFreeSlot, slotForm, slotFollows, ledgerOk, liveIn, liveSlot, ledgerWith}
 use Rattle.ledger.proofs.SlotLaws.{length-chop}
 use Rattle.ledger.proofs.EventLaws.{Below, Up}
 

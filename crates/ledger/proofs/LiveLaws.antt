@@ -3,7 +3,6 @@
 use mathlib.Core.Path.{_≡_, refl, sym, ap, ap₂, _∙_, subst}
 use mathlib.Core.Bool.{Bool, true, false, not, cond, _&&_, _||_}
 use mathlib.Core.List.{List, [], _∷_, _++_, map}
-use Prim.Native.Nat.{_+_}
 use lib.Dec.{T}
 use lib.ListN.{length, take, drop}
 use Rattle.house.specs.Text.{Text, those, adjacent, chained, joined, isLess, isSame, below, same}
@@ -15,7 +14,7 @@ use Rattle.events.specs.Sorted.{putIn, place}
 use Rattle.events.specs.Inside.{Lt, Over, Asc}
 use Rattle.events.proofs.Order.{over-down}
 use Rattle.events.proofs.SortedLaws.{ascends-asc}
-use Rattle.ledger.specs.Ledger.{slots, isLiveSlot, slotFollows, isAmong, insert, plus, less, liveSlot}
+use Rattle.ledger.specs.Ledger.{isLiveSlot, slotFollows, isAmong, insert, plus, less, liveSlot}
 use Rattle.ledger.specs.Inside.{whole}
 use Rattle.ledger.proofs.HeldLaws.{live-slot}
 

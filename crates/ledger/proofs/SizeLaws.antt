@@ -6,7 +6,7 @@ use mathlib.Core.List.{List, [], _∷_}
 use Prim.Native.Nat.{ℕ, suc, _+_}
 use native.Mathlib.Omega.{arith}
 use lib.ListN.{length}
-use Rattle.house.specs.Text.{Text, any, those, count, same}
+use Rattle.house.specs.Text.{Text, any, count, same}
 use Rattle.house.proofs.Decisions.{same-true, same-sym}
 use Rattle.events.specs.Inside.{Over, Asc}
 use Rattle.events.proofs.Order.{length-place}

@@ -2,7 +2,7 @@
 -- "Ledger, at most 100,000 slots of 38 bytes: kind 1 (a live event: ULI 9 digits, date 8, vaccine 20 padded) or kind 0 (free, 37 zero
 -- bytes). Live slots come first and ascend strictly; free ones follow. Zero slots is a valid ledger."
 -- Assumes nothing.
-use Prim.Native.Nat.{ℕ, zero, suc, _+_, _-_, _*_, _/_, _%_}
+use Prim.Native.Nat.{ℕ, zero, suc, _-_, _*_, _/_, _%_}
 use mathlib.Core.Bool.{Bool, true, false, not, cond, _&&_}
 use mathlib.Core.List.{List, [], _∷_, _++_, map}
 use lib.ListN.{length, getD, take, drop, replicate}

@@ -17,10 +17,6 @@ use Rattle.lines.specs.Records.{Rec, recOf, read, recs}
 use Rattle.lines.specs.Inside.{part, whole}
 use Rattle.lines.proofs.LineLaws.{by-ending, line-more, len-more, line-pos, lines-step, lines-past, at-next, at-lf, at-line, lines-on}
 
-pub whole-nil : whole [] ≡ true
-unfolding whole linesOf
-whole-nil = refl
-
 pub recs-nil : recs [] ≡ []
 unfolding recs linesOf
 recs-nil = refl

@@ -3,7 +3,7 @@
 use mathlib.Core.Path.{_≡_, refl}
 use mathlib.Core.Bool.{Bool, true, false, not, cond}
 use mathlib.Core.List.{List, [], _∷_}
-use Prim.Native.Nat.{ℕ, _+_, _-_, _≤_, _<_}
+use Prim.Native.Nat.{ℕ, _+_, _-_, _<_}
 use native.Mathlib.Omega.{arith}
 use borrow.Author.Tests.{eqb-true, eqb-false}
 use lib.Dec.{eqb}
@@ -16,7 +16,7 @@ use Rattle.lines.specs.Lines.{Line, linesOf, fieldsOf, LineIs}
 use Rattle.lines.specs.Records.{IF, recordOf, countOf}
 use Rattle.lines.specs.Shape.{follows, printable, pipeLast, cause1, cause2, cause3, cause4, cause5, cause6, causeOf, cause7, shapeFrom, shapeOf}
 use Rattle.lines.specs.Inside.{RightFrom, RightLine}
-use Rattle.lines.proofs.LineLaws.{lines-past, lines-on}
+use Rattle.lines.proofs.LineLaws.{lines-on}
 
 -- no cause at a line: each test of the definition has passed
 pub right-line : (p : ℕ) (l : Line) → causeOf p l ≡ 0 → RightLine p l
@@ -56,18 +56,11 @@ pub right-start : (s : Text) → shapeOf s ≡ Right → RightFrom 0 (linesOf s)
 unfolding shapeOf
 right-start s h = right-from 1 0 (linesOf s) h
 
-pub right-end : (s : Text) (at p : ℕ) → length s ≤ at → RightFrom p (linesOf (drop at s)) → p ≡ IF
-unfolding RightFrom
-right-end s at p h r = rw (lines-past s at h) at r
-
 -- one line on, from position at
 module _ (s : Text) (at : ℕ) (q : LineAt) (e : LineIs s at q) (h : at < length s) (p : ℕ) (r : RightFrom p (linesOf (drop at s))) where
   split : (causeOf p (record { text = take (q .end - at) (drop at s); ended = q .lf }) ≡ 0) × RightFrom (recordOf (take (q .end - at) (drop at s))) (linesOf (drop (q .next) s))
   unfolding RightFrom
   split = rw (lines-on s at q e h) at r
-
-  pub right-here : RightLine p (record { text = take (q .end - at) (drop at s); ended = q .lf })
-  right-here = right-line p _ (split .0)
 
   pub right-on : RightFrom (recordOf (take (q .end - at) (drop at s))) (linesOf (drop (q .next) s))
   right-on = split .1

@@ -10,7 +10,7 @@ use lib.Seq.{getD-append-add, getD-take, getD-drop, ext-getD}
 use Rattle.house.specs.Text.{Text, joined}
 use Rattle.house.proofs.Small.{Three, lt, eq, gt, three}
 use Rattle.rules.specs.Findings.{Finding, findingBytes, areaAfter}
-use Rattle.rules.specs.Claims.{noFinding, AreaHolds, AreaKept, OneArea}
+use Rattle.rules.specs.Claims.{noFinding, AreaKept, OneArea}
 
 kept-length : (xs : List Finding) → length (joined findingBytes xs) ≡ length xs * 6
 unfolding findingBytes

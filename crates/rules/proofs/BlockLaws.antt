@@ -3,17 +3,16 @@
 use Prim.Native.Nat.{ℕ, suc, _≤_}
 use native.Mathlib.Omega.{arith}
 use mathlib.Core.Path.{_≡_, refl, sym, ap, _∙_, subst}
-use mathlib.Core.Bool.{Bool, true, false, not, cond, _&&_, _||_}
+use mathlib.Core.Bool.{Bool, true, false, not, cond, _&&_}
 use mathlib.Core.Logic.{inl, inr}
 use mathlib.Core.List.{List, [], _∷_, map}
 use lib.ListN.{length, getD, take, drop, List·getD-eq-default}
-use lib.Dec.{T, T-not, not-T, eqb, leb, eqb→eq, eqb-refl, leb→le}
+use lib.Dec.{T, eqb, leb, eqb→eq, eqb-refl, leb→le}
 use borrow.Author.Tests.{leb-true, leb-false}
 use Rattle.house.specs.Text.{Text, same, any, all, those, run, within, isDigit, isGraphic, isEmpty, digits, number, pad, isPadded}
 use Rattle.house.specs.Members.{In, Distinct}
 use Rattle.dates.specs.Dates.{isDate, isDay}
-use Rattle.house.specs.Key.{keyOf}
-use Rattle.house.proofs.Facts.{both, both-of, either, left-of, of-true, is-true}
+use Rattle.house.proofs.Facts.{both, both-of, left-of, of-true}
 use Rattle.house.proofs.Members.{in-those, in-map, any-in, distinct-fewer, same-one}
 use Rattle.house.proofs.Small.{clash}
 use Rattle.house.proofs.Decisions.{same-is, is-same-T}
@@ -22,11 +21,11 @@ use Rattle.lines.specs.Records.{Rec, II, isKind, recs}
 use Rattle.ledger.specs.Ledger.{Event, eventForm}
 use Rattle.rules.specs.Forms.{fieldIn, text, table, formOf, isJudged, isOptional, isMissing, isMisformed, isSound, isUli, isType, isCode}
 use Rattle.rules.specs.Places.{Place, placesFrom, placesOf, placesIn}
-use Rattle.rules.specs.Blocks.{isInBlock, eventOf, sameEvent, joins, nearestOf, openAfter, joinsOpen, begins, beforeOpen, beforeBlock, isRepeated, beginsBlock, eventsOf, adds, changes, deletes}
-use Rattle.rules.specs.Seen.{Setting, Seen, seenAt}
+use Rattle.rules.specs.Blocks.{isInBlock, eventOf, sameEvent, joins, nearestOf, openAfter, begins, beforeOpen, beforeBlock, isRepeated, beginsBlock, eventsOf, adds, changes, deletes}
+use Rattle.rules.specs.Seen.{Setting, seenAt}
 use Rattle.rules.specs.Rules.{rules, rulesIn, rulesOf, isBroken, isAt, asks, rule15, rule16, rule17, rule18}
 use Rattle.rules.specs.Findings.{Finding, findingsOf}
-use Rattle.rules.specs.Claims.{Clean, CleanFile, LotsOnce}
+use Rattle.rules.specs.Claims.{CleanFile, LotsOnce}
 use Rattle.rules.proofs.FindingLaws.{findings-listed}
 
 -- The fields of an II that is in a block

@@ -3,12 +3,12 @@
 use Prim.Native.Nat.{ℕ, zero, suc, _+_, _<_, _≤_}
 use native.Mathlib.Omega.{arith}
 use mathlib.Core.Path.{_≡_, refl, sym, ap, _∙_, subst}
-use mathlib.Core.Bool.{Bool, true, false, cond, _&&_, _||_}
+use mathlib.Core.Bool.{Bool, true, false, cond, _&&_}
 use mathlib.Core.Logic.{_⊎_, inl, inr, ⊎-elim}
 use mathlib.Core.List.{List, [], _∷_, _++_}
 use lib.ListN.{length}
 use lib.Dec.{T, eqb, ltb, eqb→eq, eqb-refl, ltb→lt}
-use Rattle.house.specs.Text.{Text, any, joined}
+use Rattle.house.specs.Text.{any, joined}
 use Rattle.house.specs.Members.{In, Rising}
 use Rattle.house.proofs.Facts.{both, both-of, either, left-of, right-of, of-true}
 use Rattle.house.proofs.Members.{in-cases, in-left, in-right, in-joined, joined-in, rising-append, one-rising}
@@ -18,7 +18,7 @@ use Rattle.rules.specs.Places.{Place, placesFrom, placesOf, placesIn}
 use Rattle.rules.specs.Seen.{Setting, Seen, seenAt}
 use Rattle.rules.specs.Rules.{Numbered, rules, rulesIn, rulesOf, isBroken, brokenBy, brokenAt}
 use Rattle.rules.specs.Findings.{Finding, found, fieldsFindings, lineFindings, findingsOf}
-use Rattle.rules.specs.Claims.{Broken, Before, Ascending, Lists, FindingsListed, OneList}
+use Rattle.rules.specs.Claims.{Broken, Before, Ascending, FindingsListed, OneList}
 
 -- The rules at one field
 

@@ -1,7 +1,7 @@
 -- Blocks, and the events that they name.
 -- "A block is a longest run of II (each with its IE lines) under one IP whose fields 3, 4, 6 and 8 are sound and equal."
 -- Assumes nothing.
-use mathlib.Core.Bool.{Bool, true, false, not, cond, _&&_, _||_}
+use mathlib.Core.Bool.{Bool, false, not, cond, _&&_, _||_}
 use mathlib.Core.List.{List, [], _∷_, map}
 use Rattle.house.specs.Text.{Text, bytes, same, any, those}
 use Rattle.house.specs.Key.{keyOf}

@@ -2,7 +2,7 @@
 -- "Later rules are judged only where the fields that they read are sound."
 -- Assumes nothing.
 use Prim.Native.Nat.{ℕ}
-use mathlib.Core.Bool.{Bool, true, false, not, cond, _&&_, _||_}
+use mathlib.Core.Bool.{Bool, not, cond, _&&_, _||_}
 use mathlib.Core.List.{List, [], _∷_, _++_}
 use lib.Dec.{eqb, ltb}
 use Rattle.house.specs.Text.{Text, bytes, same, any, all, number, isEmpty, within}

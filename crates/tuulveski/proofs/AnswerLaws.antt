@@ -1,8 +1,8 @@
 -- Which answer is given: each exactly when it is due.
 -- Assumes nothing.
-use Prim.Native.Nat.{ℕ, _+_, _≤_, _<_}
+use Prim.Native.Nat.{_+_, _≤_}
 use native.Mathlib.Omega.{arith}
-use mathlib.Core.Path.{_≡_, refl, sym, ap, _∙_, subst}
+use mathlib.Core.Path.{_≡_, refl, ap, _∙_, subst}
 use mathlib.Core.Bool.{Bool, true, false, not, cond}
 use mathlib.Core.Logic.{inl}
 use mathlib.Core.List.{List, [], _∷_}
@@ -18,11 +18,11 @@ use Rattle.lines.specs.declared.Shape.{Shape}
 use Rattle.lines.specs.declared.Shape.the-variants.{Right, Fault}
 use Rattle.book.specs.Book.{bookOk}
 use Rattle.ledger.specs.Ledger.{ledgerOk, slotsIn, liveIn}
-use Rattle.rules.specs.Findings.{Finding, findingsOf}
+use Rattle.rules.specs.Findings.{Finding}
 use Rattle.rules.proofs.FindingLaws.{findings-listed, one-list}
 use Rattle.answers.specs.declared.Answer.{Answer}
 use Rattle.answers.specs.declared.Answer.the-variants.{Accepted, Date, Long, Book, Ledger, Shape as BadShape, Findings, Full}
-use Rattle.answers.specs.Answers.{Lent, Outcome, fileMost, settingOf, findings, added, changed, deleted, notImmunized, isFull, refused, accepted, withFindings, roomed, judged, shaped, check}
+use Rattle.answers.specs.Answers.{Lent, Outcome, fileMost, settingOf, findings, added, deleted, isFull, refused, accepted, withFindings, roomed, judged, shaped, check}
 use Rattle.tuulveski.specs.Demands.{Unbroken, ListsAll, Room, Lends, Shapely, Due}
 
 -- Findings and room, as facts

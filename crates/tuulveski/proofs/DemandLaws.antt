@@ -1,30 +1,29 @@
 -- All that is demanded holds of the definition; no second outcome meets it; and the four useless checks do not.
 -- Assumes nothing.
-use Prim.Native.Nat.{ℕ, _+_, _≤_, _<_}
+use Prim.Native.Nat.{ℕ}
 use native.Mathlib.Omega.{arith}
 use mathlib.Core.Path.{_≡_, refl, sym, ap, ap₂, _∙_, subst}
-use mathlib.Core.Bool.{Bool, true, false, not, cond, _&&_, _||_}
-use mathlib.Core.Logic.{_⊎_, inl, inr, ⊎-elim}
+use mathlib.Core.Bool.{Bool, true, false, not, cond, _&&_}
+use mathlib.Core.Logic.{inl, ⊎-elim}
 use mathlib.Core.List.{List, [], _∷_, _++_}
 use lib.ListN.{length}
-use lib.Dec.{T}
 use borrow.Author.Tests.{leb-true}
 use Rattle.house.specs.Text.{Text}
 use Rattle.house.specs.Members.{In}
 use Rattle.house.proofs.Facts.{both, either, of-true}
 use Rattle.house.proofs.Small.{clash}
-use Rattle.ledger.specs.Ledger.{Event, slotsIn, ledgerOk, liveIn, isAmong}
+use Rattle.ledger.specs.Ledger.{Event, ledgerOk, liveIn, isAmong}
 use Rattle.ledger.proofs.EventLaws.{among-in}
 use Rattle.ledger.proofs.HeldLaws.{one-ledger}
-use Rattle.rules.specs.Findings.{Finding, findingsOf}
+use Rattle.rules.specs.Findings.{findingsOf}
 use Rattle.rules.specs.FileE.{bookE, fileE}
 use Rattle.rules.proofs.AreaLaws.{one-area}
 use Rattle.answers.specs.declared.Answer.{Answer}
 use Rattle.answers.specs.declared.Answer.the-variants.{Accepted, Shape}
 use Rattle.answers.specs.Answers.{Lent, Outcome, settingOf, findings, added, changed, deleted, notImmunized, check, isAccepted, isFindings}
-use Rattle.tuulveski.specs.Runs.{Check, Call, lentTo, leaves, addedBy, deletedBy, ledgerAfterRun, allAdded, allDeleted, lastAdded}
-use Rattle.tuulveski.specs.Examples.{fileD, zeros, eventOn, lentE, on}
-use Rattle.tuulveski.specs.Demands.{Demand1, Demand2, Demand3, LedgerAfter, Demands, OneOutcome, Due, Lends, Shapely, Unbroken, Room, RefusesAll, Constant, NeverTouches, OnlyFirst, UselessShutOut}
+use Rattle.tuulveski.specs.Runs.{Check, Call, leaves, addedBy, deletedBy}
+use Rattle.tuulveski.specs.Examples.{fileD, zeros, eventOn, lentE}
+use Rattle.tuulveski.specs.Demands.{Demand1, Demand2, Demand3, LedgerAfter, Demands, OneOutcome, Due, Shapely, RefusesAll, Constant, NeverTouches, OnlyFirst, UselessShutOut}
 use Rattle.tuulveski.proofs.Cases.{settingE, computed}
 use Rattle.tuulveski.proofs.AnswerLaws.{given-due, lists-findings, none-unbroken}
 use Rattle.tuulveski.proofs.FileLaws.{demand-1, demand-2, ledger-after}

@@ -1,11 +1,11 @@
 -- One call: what it does to the ledger and to the findings area.
 -- Assumes nothing.
-use Prim.Native.Nat.{ℕ, _+_, _/_, _%_, _≤_}
+use Prim.Native.Nat.{_+_, _≤_}
 use native.Mathlib.Omega.{arith}
 use mathlib.Core.Path.{_≡_, refl, sym, ap, _∙_, subst}
 use mathlib.Core.Bool.{Bool, true, false, not, cond}
-use mathlib.Core.Logic.{_⊎_, _↔_, inl, inr, ⊎-elim}
-use mathlib.Core.List.{List, [], _∷_}
+use mathlib.Core.Logic.{_⊎_, _↔_, inr, ⊎-elim}
+use mathlib.Core.List.{List, []}
 use lib.ListN.{length, getD}
 use lib.Dec.{T, ltb}
 use Rattle.house.specs.Text.{Text, count, isEmpty}
@@ -17,18 +17,18 @@ use Rattle.lines.specs.Shape.{shapeOf}
 use Rattle.lines.specs.declared.Shape.{Shape}
 use Rattle.lines.specs.declared.Shape.the-variants.{Right, Fault}
 use Rattle.book.specs.Book.{bookOk}
-use Rattle.ledger.specs.Ledger.{Event, slotsIn, eventForm, ledgerOk, liveIn, eventsAfter, ledgerWith}
+use Rattle.ledger.specs.Ledger.{Event, slotsIn, eventForm, ledgerOk, liveIn, eventsAfter}
 use Rattle.ledger.proofs.EventLaws.{among-in, in-among, in-after, after-in, count-after, count-every, every, up-after, Up, up-distinct, after-none}
 use Rattle.ledger.proofs.HeldLaws.{AllLong, well-formed, with-length, live-with, with-ok, live-long, live-formed, live-up}
 use Rattle.rules.specs.Places.{placesIn}
-use Rattle.rules.specs.Findings.{Finding, areaAfter}
+use Rattle.rules.specs.Findings.{areaAfter}
 use Rattle.rules.specs.Claims.{Clean, AreaHolds}
 use Rattle.rules.proofs.AreaLaws.{area-kept}
 use Rattle.rules.proofs.BlockLaws.{clean-file}
 use Rattle.answers.specs.declared.Answer.{Answer}
 use Rattle.answers.specs.declared.Answer.the-variants.{Accepted, Date, Long, Book, Ledger, Shape as BadShape, Findings, Full}
 use Rattle.answers.specs.Answers.{Lent, Outcome, fileMost, settingOf, findings, added, changed, deleted, isFull, ledgerAfter, refused, accepted, withFindings, roomed, judged, shaped, check, numbersOf, isAccepted, isFindings}
-use Rattle.tuulveski.specs.Demands.{Demand1, Demand2, LedgerAfter, Unbroken, ListsAll, Room, Lends, Shapely, Due}
+use Rattle.tuulveski.specs.Demands.{Demand1, Demand2, LedgerAfter, Unbroken, Room, Shapely, Due}
 use Rattle.tuulveski.proofs.AnswerLaws.{given-due, due-given, only-findings, unbroken-none}
 
 -- What is left with each answer

@@ -1,12 +1,11 @@
 -- Runs of calls: demand 3.
 -- Assumes nothing.
-use Prim.Native.Nat.{ℕ, _+_}
+use Prim.Native.Nat.{_+_}
 use native.Mathlib.Omega.{arith}
 use mathlib.Core.Path.{_≡_, refl, sym, ap, _∙_, subst}
 use mathlib.Core.Bool.{Bool, true, false, not, cond, _&&_, _||_}
 use mathlib.Core.Logic.{_⊎_, _↔_, inl, inr, ⊎-elim}
-use mathlib.Core.List.{List, [], _∷_, _++_}
-use lib.ListN.{length}
+use mathlib.Core.List.{List, [], _∷_}
 use lib.Dec.{T, T-not, not-T}
 use Rattle.house.specs.Text.{Text, count}
 use Rattle.house.specs.Members.{In}
@@ -14,7 +13,7 @@ use Rattle.house.proofs.Facts.{both, both-of, either, left-of, right-of, of-tru
 use Rattle.house.proofs.Members.{count-append}
 use Rattle.ledger.specs.Ledger.{Event, ledgerOk, liveIn, isAmong}
 use Rattle.ledger.proofs.EventLaws.{among-in, in-among, every, count-every}
-use Rattle.answers.specs.Answers.{Lent, Outcome, check, added, deleted, ledgerAfter, isAccepted}
+use Rattle.answers.specs.Answers.{Lent, check, added, deleted, isAccepted}
 use Rattle.tuulveski.specs.Runs.{Call, lentTo, leaves, addedBy, deletedBy, ledgerAfterRun, allAdded, allDeleted, lastAdded, isOf}
 use Rattle.tuulveski.specs.Demands.{Demand3}
 use Rattle.tuulveski.proofs.FileLaws.{accepts, accepted-ledger, refused-ledger, after-ok, after-counts, after-members}

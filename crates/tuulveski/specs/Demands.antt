@@ -1,9 +1,9 @@
 -- The three demands, and what a check that is of no use would break: statements, over any check. The proofs stand in proofs/. What is
 -- quoted here is from the demands (docs/PROMISES.md), but for the ledger's form and the useless checks, which are document 01's.
 -- Assumes nothing.
-use Prim.Native.Nat.{ℕ, _+_, _≤_, _<_}
+use Prim.Native.Nat.{_+_, _≤_, _<_}
 use mathlib.Core.Path.{_≡_}
-use mathlib.Core.Bool.{Bool, true, false}
+use mathlib.Core.Bool.{true, false}
 use mathlib.Core.Logic.{_⊎_, _↔_}
 use mathlib.Core.List.{List, [], _∷_}
 use lib.ListN.{length, getD}
@@ -12,7 +12,6 @@ use Rattle.house.specs.Text.{Text, count}
 use Rattle.house.specs.Members.{In, Distinct}
 use Rattle.dates.specs.Dates.{isDay}
 use Rattle.lines.specs.Shape.{shapeOf}
-use Rattle.lines.specs.declared.Shape.{Shape}
 use Rattle.lines.specs.declared.Shape.the-variants.{Right, Fault}
 use Rattle.book.specs.Book.{bookOk}
 use Rattle.ledger.specs.Ledger.{Event, slotsIn, ledgerOk, liveIn}

@@ -5,7 +5,7 @@ use mathlib.Core.Bool.{not, cond, _&&_, _||_}
 use mathlib.Core.List.{List}
 use lib.Dec.{eqb, ltb}
 use Rattle.house.specs.Text.{Text, bytes, any, same, number}
-use Rattle.lines.specs.Records.{Rec, IP, II}
+use Rattle.lines.specs.Records.{Rec, IP}
 use Rattle.dates.specs.Dates.{isDate}
 use Rattle.rules.specs.Forms.{text, isSound}
 use Rattle.lists.specs.Among.{lotIs}

@@ -2,7 +2,7 @@
 -- Assumes nothing.
 use Rattle.ledger.proofs.BackLaws.{for-merge-in}
 use mathlib.Core.Path.{_≡_}
-use Prim.Native.Nat.{_-_, _+_}
+use Prim.Native.Nat.{_+_}
 use lib.ListN.{length}
 use Rattle.ledger.proofs.BackLaws.{Back}
 use Rattle.ledger.proofs.merge_in.Statement.{statement}

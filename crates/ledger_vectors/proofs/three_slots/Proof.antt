@@ -2,8 +2,6 @@
 -- Assumes nothing.
 use Rattle.stream.proofs.PartLaws.{for-cases}
 use Prim.Native.Nat.{_-_, _≤_}
-use mathlib.Core.Path.{_≡_}
-use lib.ListN.{length}
 use Rattle.ledger_vectors.proofs.three_slots.Statement.{statement}
 use Rattle.ledger_vectors.proofs.three_slots.Tie as tie
 

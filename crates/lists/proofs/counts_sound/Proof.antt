@@ -4,8 +4,8 @@ use Rattle.lists.proofs.ListNeeds.{for-all-lines}
 use mathlib.Core.Path.{_≡_}
 use Prim.Native.Nat.{_-_, _≤_}
 use lib.ListN.{length, drop}
-use Rattle.lines.specs.Records.{recOf, recs}
-use Rattle.house.specs.Text.{any, all}
+use Rattle.lines.specs.Records.{recs}
+use Rattle.house.specs.Text.{all}
 use Rattle.lists.specs.Among.{soundCount}
 use Rattle.rules.specs.Rules.{countsSound}
 use Rattle.lists.proofs.counts_sound.Statement.{statement}

@@ -1,7 +1,7 @@
 -- `index::parts::count_of` meets its contract.
 -- Assumes nothing.
 use Rattle.index.proofs.PartNeeds.{for-count-of}
-use Prim.Native.Nat.{_-_, _≤_}
+use Prim.Native.Nat.{_-_}
 use mathlib.Core.List.{[]}
 use lib.ListN.{length}
 use Rattle.index.proofs.PartNeeds.{Parting}

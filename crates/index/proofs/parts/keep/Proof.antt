@@ -1,7 +1,7 @@
 -- `index::parts::keep` meets its contract.
 -- Assumes nothing.
 use Rattle.index.proofs.PartNeeds.{for-keep}
-use Prim.Native.Nat.{_-_, _≤_}
+use Prim.Native.Nat.{_-_}
 use lib.ListN.{length}
 use Rattle.index.proofs.PartNeeds.{Keeping}
 use Rattle.index.proofs.parts.keep.Statement.{statement}

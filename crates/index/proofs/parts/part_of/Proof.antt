@@ -1,7 +1,7 @@
 -- `index::parts::part_of` meets its contract.
 -- Assumes nothing.
 use Rattle.index.proofs.PartNeeds.{for-part-of}
-use Prim.Native.Nat.{_-_, _≤_}
+use Prim.Native.Nat.{_-_}
 use lib.ListN.{length}
 use Rattle.index.proofs.PartNeeds.{Parting}
 use Rattle.index.proofs.parts.part_of.Statement.{statement}
