@@ -23,8 +23,9 @@ struct Known {
     in_day: Day,
 }
 
-// What is known at the start of a line: its number; its place, if it is numbered; the nearest IP, II and IN, and what they give; where the IE lines just before it start; the nearest II of the open block, where that block
-// starts, whether it has a second II, and the IE lines of its first; how many IN lines there are so far.
+// What is known at the start of a line: its number; its place, if it is numbered; the nearest IP, II and IN, and what they give; where the IE
+// lines just before it start; the nearest II of the open block, where that block starts, whether it has a second II, and the IE lines of its
+// first; how many IN lines there are so far.
 struct State {
     n: usize,
     place: usize,
