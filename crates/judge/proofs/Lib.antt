@@ -9,6 +9,7 @@ pub mod TurnLaws
 -- The rules at a field
 pub mod Collapse
 pub mod AtLaws
+pub mod BlankLaws
 pub mod RuleLaws
 pub mod SettingLaws
 -- What the functions' own needs ask

@@ -3,7 +3,7 @@
 use mathlib.Core.Path.{_≡_, refl, ap, _∙_}
 use mathlib.Core.Bool.{Bool, true, false, not, _&&_}
 use mathlib.Core.List.{List, _++_}
-use Prim.Native.Nat.{ℕ, zero, suc, _+_, _-_, _≤_, _<_}
+use Prim.Native.Nat.{ℕ, zero, suc, _+_, _-_, _<_}
 use native.Mathlib.Numerals.{sub-one}
 use native.Mathlib.Omega.{arith}
 use lib.Dec.{eqb}
@@ -42,10 +42,6 @@ module _ (s : Setting) (n : ℕ) (v : Seen) where
     pub line-on : (b : Broken) (d : ℕ) (e : Text) → 0 < left → listed b ≡ brokenAt s v f → kept d e ≡ keep (found n f (listed b)) (kept c a)
         → x ≡ keep (fieldsFindings s n v (f + 1) (left - 1)) (kept d e)
     line-on b d e h p q = inv ∙ rw (fields-on f left h, keep-append, ← p, ← q)
-
-    pub line-end : left ≤ 0 → kept c a ≡ x
-    unfolding fieldsFindings keep
-    line-end h = let e : left ≡ 0 = omega arith in rw (inv, e)
 
 -- what is broken at each field is all that counts
 fields-same : (s r : Setting) (n : ℕ) (v w : Seen) → ((f : ℕ) → brokenAt s v f ≡ brokenAt r w f) → (f m : ℕ) → fieldsFindings s n v f m ≡ fieldsFindings r n w f m

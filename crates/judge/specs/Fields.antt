@@ -2,10 +2,10 @@
 -- Assumes nothing.
 use Prim.Native.Nat.{ℕ}
 use mathlib.Core.Path.{_≡_}
-use mathlib.Core.Bool.{true, cond}
+use mathlib.Core.Bool.{true, cond, _&&_}
 use mathlib.Core.List.{List, reverse}
 use lib.ListN.{drop}
-use lib.Dec.{eqb}
+use lib.Dec.{eqb, ltb}
 use Rattle.house.specs.Text.{Text, those, within}
 use Rattle.lines.specs.Records.{Rec, II, IE, IN, IA, isKind, recordOf, recOf, recs}
 use Rattle.book.specs.declared.Sections.{Sections}
@@ -22,6 +22,10 @@ use Rattle.later.specs.Look.{knownBy, forceBy}
 -- those of the rules after the first two that are broken at a field
 unfoldable pub laterAt : Setting → Seen → ℕ → List ℕ
 laterAt s v f = brokenBy s v f (drop 2 (rulesOf s))
+
+-- how many of n fields of a record of kind k are judged: no rule is placed behind II 15
+unfoldable pub judgedFields : ℕ → ℕ → ℕ
+judgedFields k n = cond (eqb k II && ltb 15 n) 15 n
 
 -- the day that field f of a record gives
 abbrev pub dayFrom : ℕ → Rec → ℕ → Day

@@ -14,15 +14,17 @@ use later::Facts;
 use lines::II;
 ghost use mathlib.Core.Path.{_≡_};
 ghost use Prim.Native.Nat.{_+_, _*_, _^_, _≤_, _<_};
+ghost use mathlib.Core.Bool.{_&&_};
+ghost use lib.Dec.{eqb, leb};
 ghost use lib.ListN.{length};
 ghost use Rattle.lines.specs.Lines.{fieldsOf, fieldOf};
 ghost use Rattle.lines.specs.Records.{recordOf, recOf};
 ghost use Rattle.rules.specs.Forms.{isRelaxed};
 ghost use Rattle.rules.specs.Seen.{Setting, Seen};
 ghost use Rattle.rules.specs.Rules.{brokenAt};
-ghost use Rattle.rules.specs.Findings.{fieldsFindings};
+ghost use Rattle.rules.specs.Findings.{found, fieldsFindings};
 ghost use Rattle.judge.specs.Inside.{kept, keep, listed};
-ghost use Rattle.judge.specs.Fields.{Told};
+ghost use Rattle.judge.specs.Fields.{Told, judgedFields};
 
 // Whether a line of kind k is a relaxed event; asked of an II alone.
 fn relaxed_of(k: u8, line: &[u8]) -> bool
@@ -105,8 +107,21 @@ fn behind(line: &[u8], at: usize, t: &[u8]) -> usize
     at + t.len() + 1
 }
 
+// How many fields of a line of kind k are judged: no rule is placed behind II 15.
+fn judged_fields(k: u8, line: &[u8]) -> usize
+    ensures { λ r. ⌜ r ≡ judgedFields k (length (fieldsOf (now (line .entry)))) ⌝ }
+{
+    let fields = lines::count_fields(line);
+    if k == II {
+        if 15 < fields {
+            return 15;
+        }
+    }
+    fields
+}
+
 // Every field of a line of kind k, the n-th of the file: its findings put to the others.
-pub(crate) fn judge_fields(
+fn judge_each(
     k: u8,
     line: &[u8],
     ip: &[u8],
@@ -131,7 +146,7 @@ pub(crate) fn judge_fields(
     ensures { λ r. ⌜ ((s : Setting) (v : Seen) → Told today (now (book .entry)) q place born (now (line .entry)) (now (ip .entry)) (now (head .entry)) (now (since .entry)) (now (block .entry)) (now (own .entry)) (now (first .entry)) day facts s v → kept r (now (area .exit)) ≡ keep (fieldsFindings s n v 1 (length (fieldsOf (now (line .entry))))) (kept count (now (area .entry)))) ⌝ }
     ensures { λ r. ⌜ r ≤ count + 3 * length (fieldsOf (now (line .entry))) ⌝ }
 {
-    let fields = lines::count_fields(line);
+    let fields = judged_fields(k, line);
     let relaxed = relaxed_of(k, line);
     let mut c = count;
     let mut at = 0;
@@ -163,4 +178,106 @@ pub(crate) fn judge_fields(
         f += 1;
     }
     c
+}
+
+// Field f of an IP, the n-th line of the file: its findings put to the others.
+fn judge_one(
+    line: &[u8],
+    place: usize,
+    today: u32,
+    f: usize,
+    n: usize,
+    area: &mut [u8],
+    count: usize,
+) -> usize
+    requires { ⌜ recordOf (now line) ≡ 3 ⌝ }
+    requires { ⌜ count + 3 < 2 ^ 64 ⌝ }
+    ensures { λ r. ⌜ ((s : Setting) (v : Seen) → v .line ≡ recOf (now (line .entry)) → v .place ≡ place → s .today ≡ today → kept r (now (area .exit)) ≡ keep (found n f (brokenAt s v f)) (kept count (now (area .entry)))) ⌝ }
+    ensures { λ r. ⌜ r ≤ count + 3 ⌝ }
+{
+    let t = lines::field_of(line, f);
+    let b = judge_ip(line, place, today, f, t);
+    emit(area, count, n, f, b)
+}
+
+// The fields of an IP that a rule is placed on, 2, 3 and 25.
+fn judge_person(
+    line: &[u8],
+    place: usize,
+    today: u32,
+    n: usize,
+    area: &mut [u8],
+    count: usize,
+) -> usize
+    requires { ⌜ recordOf (now line) ≡ 3 ⌝ }
+    requires { ⌜ 25 ≤ length (fieldsOf (now line)) ⌝ }
+    requires { ⌜ count + 3 * length (fieldsOf (now line)) < 2 ^ 63 ⌝ }
+    ensures { λ r. ⌜ ((s : Setting) (v : Seen) → v .line ≡ recOf (now (line .entry)) → v .place ≡ place → s .today ≡ today → kept r (now (area .exit)) ≡ keep (fieldsFindings s n v 1 (length (fieldsOf (now (line .entry))))) (kept count (now (area .entry)))) ⌝ }
+    ensures { λ r. ⌜ r ≤ count + 3 * length (fieldsOf (now (line .entry))) ⌝ }
+{
+    let a = judge_one(line, place, today, 2, n, area, count);
+    let b = judge_one(line, place, today, 3, n, area, a);
+    judge_one(line, place, today, 25, n, area, b)
+}
+
+// Whether a line of kind k is an IP with all the fields that a rule is placed on.
+fn is_person(k: u8, line: &[u8]) -> bool
+    ensures { λ r. ⌜ r ≡ eqb k 3 && leb 25 (length (fieldsOf (now (line .entry)))) ⌝ }
+{
+    if k == lines::IP {
+        25 <= lines::count_fields(line)
+    } else {
+        false
+    }
+}
+
+// The fields of a line of kind k, the n-th of the file: its findings put to the others. Of an IP most fields are not judged, so it goes its own way.
+pub(crate) fn judge_fields(
+    k: u8,
+    line: &[u8],
+    ip: &[u8],
+    head: &[u8],
+    since: &[u8],
+    block: &[u8],
+    own: &[u8],
+    first: &[u8],
+    book: &[u8],
+    q: Sections,
+    place: usize,
+    born: u32,
+    day: Day,
+    today: u32,
+    facts: Facts,
+    n: usize,
+    area: &mut [u8],
+    count: usize,
+) -> usize
+    requires { ⌜ k ≡ recordOf (now line) ⌝ }
+    requires { ⌜ count + 3 * length (fieldsOf (now line)) < 2 ^ 63 ⌝ }
+    ensures { λ r. ⌜ ((s : Setting) (v : Seen) → Told today (now (book .entry)) q place born (now (line .entry)) (now (ip .entry)) (now (head .entry)) (now (since .entry)) (now (block .entry)) (now (own .entry)) (now (first .entry)) day facts s v → kept r (now (area .exit)) ≡ keep (fieldsFindings s n v 1 (length (fieldsOf (now (line .entry))))) (kept count (now (area .entry)))) ⌝ }
+    ensures { λ r. ⌜ r ≤ count + 3 * length (fieldsOf (now (line .entry))) ⌝ }
+{
+    if is_person(k, line) {
+        return judge_person(line, place, today, n, area, count);
+    }
+    judge_each(
+        k,
+        line,
+        ip,
+        head,
+        since,
+        block,
+        own,
+        first,
+        book,
+        q,
+        place,
+        born,
+        day,
+        today,
+        facts,
+        n,
+        area,
+        count,
+    )
 }
