@@ -121,34 +121,32 @@ impl Date {
         }
     }
 
-    // Whether a text is an end: a date, or open.
-    pub fn is_end(text: &[u8]) -> bool
-        ensures { λ r. ⌜ r ≡ isEnd (now (text .entry)) ⌝ }
-    {
-        if text.len() != Self::WIDTH {
-            return false;
-        }
-        if all_digits(text) {
-            let n = number_of(text);
-            if n == Self::OPEN {
-                return true;
-            }
-            Self::is_day(n)
-        } else {
-            false
-        }
-    }
-
     // The date that an end writes, OPEN for one that is open.
     pub fn end_of(text: &[u8]) -> Dated
         ensures { λ r. ⌜ r ≡ endedOf (now (text .entry)) ⌝ }
     {
-        if Self::is_end(text) {
-            Dated::Day(Date {
-                number: number_of(text),
-            })
+        if text.len() != Self::WIDTH {
+            return Dated::NoDate;
+        }
+        if all_digits(text) {
+            let n = number_of(text);
+            if n == Self::OPEN {
+                return Dated::Day(Date { number: n });
+            }
+            Self::of_number(n)
         } else {
             Dated::NoDate
+        }
+    }
+
+    // Whether a text is an end: a date, or open.
+    pub fn is_end(text: &[u8]) -> bool
+        ensures { λ r. ⌜ r ≡ isEnd (now (text .entry)) ⌝ }
+    {
+        let end = Self::end_of(text);
+        match end {
+            Dated::Day(_) => true,
+            Dated::NoDate => false,
         }
     }
 }

@@ -1,13 +1,11 @@
 -- Fields that no rule is placed on have no findings: those of an II behind 15, and those of an IP but 2, 3 and 25.
 -- Assumes nothing.
-use mathlib.Core.Path.{_≡_, refl, sym, ap, _∙_}
+use mathlib.Core.Path.{_≡_, refl, ap, _∙_}
 use mathlib.Core.List.{[], _++_, append-assoc, append-nil}
 use Prim.Native.Nat.{ℕ, zero, suc, _+_, _-_, _≤_, _<_}
 use native.Mathlib.Nat.{zero-add}
 use native.Mathlib.Omega.{arith}
 use borrow.Author.Tests.{ne-eqb}
-use lib.Dec.{eqb}
-use Rattle.house.specs.Text.{Text}
 use Rattle.lines.specs.Records.{Rec, IP, II}
 use Rattle.rules.specs.Forms.{table, formOf, isJudged, isMissing, isMisformed}
 use Rattle.rules.specs.Seen.{Setting, Seen}
