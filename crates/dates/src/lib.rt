@@ -125,18 +125,10 @@ impl Date {
     pub fn end_of(text: &[u8]) -> Dated
         ensures { λ r. ⌜ r ≡ endedOf (now (text .entry)) ⌝ }
     {
-        if text.len() != Self::WIDTH {
-            return Dated::NoDate;
+        if house::same(text, b"99999999") {
+            return Dated::Day(Date { number: Self::OPEN });
         }
-        if all_digits(text) {
-            let n = number_of(text);
-            if n == Self::OPEN {
-                return Dated::Day(Date { number: n });
-            }
-            Self::of_number(n)
-        } else {
-            Dated::NoDate
-        }
+        Self::of(text)
     }
 
     // Whether a text is an end: a date, or open.
