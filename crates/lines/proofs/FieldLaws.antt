@@ -3,7 +3,7 @@
 use mathlib.Core.Path.{_≡_, refl, sym, ap, _∙_}
 use mathlib.Core.Bool.{Bool, true, false, cond}
 use mathlib.Core.List.{List, [], _∷_}
-use Prim.Native.Nat.{ℕ, zero, suc, _+_, _≤_, _<_}
+use Prim.Native.Nat.{ℕ, zero, suc, _+_, _-_, _≤_, _<_}
 use native.Mathlib.Nat.{zero-add, add-zero}
 use native.Mathlib.Omega.{arith}
 use borrow.Author.Tests.{ltb-true, ltb-false}
@@ -68,7 +68,6 @@ fields-le (suc f) (b ∷ t) = go (eqb b pipe) (fields-le f t) (fields-le (suc f)
     go true h k = omega arith
     go false h k = omega arith
 
--- no more fields than bytes
 -- the fields that end in a text's first n bytes, and those that end behind
 pub fields-split : (n : ℕ) (t : Text) → length (fieldsOf t) ≡ length (fieldsOf (take n t)) + length (fieldsOf (drop n t))
 unfolding fieldsOf
@@ -82,6 +81,22 @@ fields-split (suc n) (b ∷ t) = go (eqb b pipe) (fields-split n t)
     go true r = omega (arith, r)
     go false r = rw (lengthen-length, lengthen-length) r
 
+-- a search for the start of a field passes over n bytes of which fewer fields end
+pub fields-pass : (n f : ℕ) (t : Text) → n ≤ length t → length (fieldsOf (take n t)) < f → fieldsLen f t ≡ n + fieldsLen (f - length (fieldsOf (take n t))) (drop n t)
+unfolding fieldsOf fieldsLen
+fields-pass zero f t l h = let e : f - 0 ≡ f = omega arith in rw (zero-add, e)
+fields-pass (suc n) f [] l h = absurd (omega arith)
+fields-pass (suc n) zero (b ∷ t) l h = absurd (omega arith)
+fields-pass (suc n) (suc f) (b ∷ t) l h = go (eqb b pipe) (fields-pass n f t (omega arith)) (fields-pass n (suc f) t (omega arith)) h
+  where
+    go : (v : Bool) → (length (fieldsOf (take n t)) < f → fieldsLen f t ≡ n + fieldsLen (f - length (fieldsOf (take n t))) (drop n t))
+        → (length (fieldsOf (take n t)) < suc f → fieldsLen (suc f) t ≡ n + fieldsLen (suc f - length (fieldsOf (take n t))) (drop n t))
+        → length (cond v ([] ∷ fieldsOf (take n t)) (lengthen b (fieldsOf (take n t)))) < suc f
+        → suc (cond v (fieldsLen f t) (fieldsLen (suc f) t)) ≡ suc n + fieldsLen (suc f - length (cond v ([] ∷ fieldsOf (take n t)) (lengthen b (fieldsOf (take n t))))) (drop n t)
+    go true p q i = let e : suc f - suc (length (fieldsOf (take n t))) ≡ f - length (fieldsOf (take n t)) = omega arith in rw (e, p (omega arith)) (omega arith)
+    go false p q i = rw (lengthen-length b (fieldsOf (take n t)), q (omega (arith, lengthen-length b (fieldsOf (take n t))))) (omega arith)
+
+-- no more fields than bytes
 pub fields-few : (t : Text) → length (fieldsOf t) ≤ length t
 unfolding fieldsOf
 fields-few [] = omega arith

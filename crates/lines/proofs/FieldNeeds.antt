@@ -1,4 +1,4 @@
--- What each need of `count_few`, `few_from`, `count_fields`, `field_start`, `pipe_from`, `field_of`, `field`, `has_field` and `field_position` asks.
+-- What each need of `count_few`, `few_from`, `count_fields`, `pass_over`, `field_start`, `pipe_from`, `field_of`, `field`, `has_field` and `field_position` asks.
 -- Assumes nothing.
 use mathlib.Core.Path.{_≡_, refl, sym, _∙_}
 use mathlib.Core.Bool.{Bool, true, false, cond}
@@ -18,7 +18,7 @@ use Rattle.house.proofs.Suffix.{drop-here, drop-past}
 use Rattle.lines.specs.Lines.{pipe, textLen, fieldsOf, fieldOf, textAt, fieldText, fieldThere, linesLen, fieldsLen, fieldPosition}
 use Rattle.lines.specs.Inside.{pipeLen}
 use Rattle.lines.proofs.LineLaws.{text-le, text-after}
-use Rattle.lines.proofs.FieldLaws.{lengthen-length, fields-few, fields-split, fields-first, fields-none, fields-le, field-first}
+use Rattle.lines.proofs.FieldLaws.{lengthen-length, fields-few, fields-split, fields-pass, fields-first, fields-none, fields-le, field-first}
 
 -- count_few, count_fields: the count x, from a position i with n fields counted; a turn leaves m
 pub count-holds : (t : Text) → length (fieldsOf t) ≡ 0 + length (fieldsOf t)
@@ -94,7 +94,21 @@ module _ (t : Text) (i f x : ℕ) (o : 1 ≤ f) (inv : x ≡ i + fieldsLen f (dr
     pub start-on : (getD t i 0 ≡ pipe → ⊥) → x ≡ i + 1 + fieldsLen f (drop (i + 1) t)
     start-on e = rw (inv, drop-here t i h, start-cons f (getD t i 0) (drop (i + 1) t) given, ne-eqb _ _ e) (omega arith)
 
-pub ruleset for-field-start = (needs, start-holds, start-none, start-end, start-last, start-pipe, start-on)
+pub ruleset for-field-start = (needs, start-none, start-end, start-last, start-pipe, start-on)
+
+-- pass_over: sixteen bytes, of which k fields end
+module _ (t : Text) (i f k : ℕ) (l : k < f) where
+  pub pass-left : 1 ≤ f - k
+  pass-left = omega arith
+
+  pub pass-on : (x : ℕ) → x ≡ i + fieldsLen f (drop i t) → i < length t → 16 ≤ length t - i → k ≡ length (fieldsOf (take (i + 16 - i) (drop i t)))
+      → x ≡ i + 16 + fieldsLen (f - k) (drop (i + 16) t)
+  pass-on x inv h m e =
+      let n : i + 16 - i ≡ 16 = omega arith in
+      let c : k ≡ length (fieldsOf (take 16 (drop i t))) = rw (← n) e in
+      rw (inv, fields-pass 16 f (drop i t) (omega (arith, length-drop i t)) (rw (← c) l), ← c, drop-drop 16 i t) (omega arith)
+
+pub ruleset for-pass-over = (needs, start-holds, pass-left, pass-on, run-short)
 
 -- pipe_from: the place x of the pipe, from a position i
 module _ (t : Text) (i x : ℕ) (inv : x ≡ i + pipeLen (drop i t)) where

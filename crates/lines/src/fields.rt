@@ -52,6 +52,38 @@ pub fn count_fields(text: &[u8]) -> usize
     n
 }
 
+// Where a search for the start of a field has come to, and how many fields are left to pass.
+struct Passed {
+    at: usize,
+    left: usize,
+}
+
+// Passes over bytes, sixteen at a time, of which fewer fields end than are left to pass. Few fields are not worth it.
+fn pass_over(text: &[u8], f: usize) -> Passed
+    requires { ⌜ 1 ≤ f ⌝ }
+    ensures { λ r. ⌜ 1 ≤ r .left ⌝ }
+    ensures { λ r. ⌜ fieldsLen f (now (text .entry)) ≡ r .at + fieldsLen (r .left) (drop (r .at) (now (text .entry))) ⌝ }
+{
+    let mut at = 0;
+    let mut left = f;
+    if f < 4 {
+        return Passed { at, left };
+    }
+    while at < text.len() {
+        if text.len() - at < 16 {
+            return Passed { at, left };
+        }
+        let e = at + 16;
+        let n = count_few(&text[at..e]) as usize;
+        if left <= n {
+            return Passed { at, left };
+        }
+        at = e;
+        left -= n;
+    }
+    Passed { at, left }
+}
+
 // Where the field after f fields starts, or the text's end.
 pub fn field_start(text: &[u8], f: usize) -> usize
     ensures { λ r. ⌜ r ≡ fieldsLen f (now (text .entry)) ⌝ }
@@ -59,8 +91,9 @@ pub fn field_start(text: &[u8], f: usize) -> usize
     if f == 0 {
         return 0;
     }
-    let mut i = 0;
-    let mut left = f;
+    let p = pass_over(text, f);
+    let mut i = p.at;
+    let mut left = p.left;
     while i < text.len() {
         if text[i] == b'|' {
             i += 1;

@@ -31,4 +31,5 @@ field-start-spec =
     (λ c. search for-field-start)
     (λ c. search for-field-start)
     (λ c. search for-field-start)
+    (λ c. search for-field-start)
     (λ c. search for-field-start))
