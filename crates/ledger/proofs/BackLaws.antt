@@ -7,7 +7,7 @@ use Prim.Native.Nat.{ℕ, zero, suc, _+_, _-_, _/_, _≤_, _<_}
 use native.Mathlib.Nat.{add-zero}
 use native.Mathlib.Omega.{arith}
 use borrow.Author.Needs.{needs}
-use borrow.Author.Tests.{ltb-true, ltb-false, not-true, not-false}
+use borrow.Author.Tests.{lt-ltb, le-leb, ltb-true, ltb-false, not-true, not-false}
 use lib.Dec.{ltb}
 use lib.ListN.{length, take, drop, getD, set, length-set, take-append-drop}
 use lib.Seq.{drop-cons, drop-set-lt, take-set-le, take-suc, take-take, take-all, getD-set-same, getD-take, length-take-le}
@@ -20,7 +20,7 @@ use Rattle.events.specs.Inside.{Lt, Le, Under, Upto, Up}
 use Rattle.events.proofs.Ranks.{le-of}
 use Rattle.events.proofs.Order.{all-take, place-append, place-snoc, put-last, upto-take, upto-le, under-lt}
 use Rattle.ledger.specs.Ledger.{slots, liveSlot}
-use Rattle.ledger.specs.Inside.{whole, slotsFor, goesLast, lastOf}
+use Rattle.ledger.specs.Inside.{whole, slotsFor, slotBefore, goesLast, lastOf}
 use Rattle.ledger.proofs.SlotLaws.{length-slots}
 use Rattle.ledger.proofs.WriteLaws.{last-some}
 
@@ -69,9 +69,10 @@ module _ (f : Text) (ps : List ℕ) (l₀ : Text) (n : ℕ) where
     pub back-in : 0 < j → i + j - 1 < length l / 38
     back-in h = omega (arith, b .size, b .room, b .left, b .right)
 
-    module _ (upK : Up whole (take n (slots l₀))) (upB : Up whole (slotsFor f ps)) (more : 0 < j) (t : Text) (et : t ≡ liveSlot (eventAt f (getD ps (j - 1) 0))) (r : Bool) (er : r ≡ goesLast (slots l) i t) where
+    module _ (upK : Up whole (take n (slots l₀))) (upB : Up whole (slotsFor f ps)) (more : 0 < j) (t : Text) (et : t ≡ slotBefore f ps j) (r : Bool) (er : r ≡ goesLast (slots l) i t) where
       at : t ≡ getD (slotsFor f ps) (j - 1) []
-      at = et ∙ sym (for-at f ps (j - 1) (omega (arith, b .right)))
+      unfolding slotBefore
+      at = et ∙ rw (lt-ltb 0 j more, le-leb j (length ps) (b .right)) (sym (for-at f ps (j - 1) (omega (arith, b .right))))
 
       adds : take j (slotsFor f ps) ≡ take (j - 1) (slotsFor f ps) ++ (t ∷ [])
       adds =

@@ -2,19 +2,21 @@
 -- d stand below the slots that are still to be looked at.
 -- Assumes nothing.
 use mathlib.Core.Path.{_≡_, refl, sym, ap, _∙_, subst}
-use mathlib.Core.Bool.{true, false}
+use mathlib.Core.Bool.{Bool, true, false, cond}
 use mathlib.Core.List.{List, [], _∷_, _++_}
 use Prim.Native.Nat.{ℕ, suc, _+_, _-_, _/_, _≤_, _<_}
 use native.Mathlib.Nat.{add-zero}
 use native.Mathlib.Numerals.{add-one}
 use native.Mathlib.Omega.{arith}
 use borrow.Author.Needs.{needs}
+use borrow.Author.Tests.{lt-ltb, le-leb, ltb-true, ltb-false}
+use lib.Dec.{ltb}
 use lib.ListN.{length, take, drop, getD, set, length-append}
 use lib.Seq.{drop-cons, drop-drop, drop-set-lt, take-suc, take-suc-set, getD-drop, getD-take, length-take-le}
 use Rattle.house.specs.declared.Order.{Order}
 use Rattle.house.specs.declared.Order.the-variants.{Less, Same, More}
-use Rattle.house.specs.Text.{Text}
-use Rattle.house.proofs.Small.{clash, Three, lt, eq, gt, three}
+use Rattle.house.specs.Text.{Text, orderOf}
+use Rattle.house.proofs.Small.{clash}
 use Rattle.house.proofs.OrderAlgebra.{flip, flipped, same-eq}
 use Rattle.house.proofs.Decisions.{less-below}
 use Rattle.house.proofs.Suffix.{drop-here, drop-past}
@@ -22,7 +24,7 @@ use Rattle.events.specs.Events.{eventAt, eventsAt}
 use Rattle.events.specs.Inside.{Lt, All, Asc}
 use Rattle.events.proofs.Order.{over-down}
 use Rattle.ledger.specs.Ledger.{slots, liveSlot, isAmong, less}
-use Rattle.ledger.specs.Inside.{whole, slotsFor, headOrder}
+use Rattle.ledger.specs.Inside.{whole, slotsFor, slotBefore, orderIf}
 use Rattle.ledger.proofs.SlotLaws.{length-slots}
 use Rattle.ledger.proofs.AmongLaws.{among-first, among-later, among-none, less-kept, less-gone}
 
@@ -43,6 +45,17 @@ module _ (f : Text) (ds : List ℕ) (d : ℕ) where
   for-past : length ds ≤ d → slotsFor f (drop d ds) ≡ []
   unfolding slotsFor eventsAt
   for-past h = rw (drop-past ds d h)
+
+before-at : (f : Text) (ds : List ℕ) (d : ℕ) → d < length ds → slotBefore f ds (d + 1) ≡ liveSlot (eventAt f (getD ds d 0))
+unfolding slotBefore
+before-at f ds d h =
+    let e : d + 1 - 1 ≡ d = omega arith in
+    rw (lt-ltb 0 (d + 1) (omega arith), le-leb (d + 1) (length ds) (omega arith), e)
+
+-- how the first slot of a list stands to slot t; above it where there is none
+unfoldable headOrder : List Text → Text → Order
+headOrder [] t = More
+headOrder (s ∷ ss) t = orderOf s t
 
 -- what the order of the first of a list in strict order says
 module _ (x : Text) where
@@ -103,7 +116,7 @@ module _ (f : Text) (ds : List ℕ) (l₀ : Text) (n : ℕ) where
         let e : r ≡ n = omega (arith, g .end) in
         g .kept ∙ rw e
 
-    module _ (more : r < n) (s : Text) (is : s ≡ getD (slots l) r []) (o : Order) (eo : o ≡ headOrder (slotsFor f (drop d ds)) s) where
+    module _ (more : r < n) (del : Text) (is-del : del ≡ slotBefore f ds (d + 1)) (s : Text) (is : s ≡ getD (slots l) r []) (o : Order) (is-o : o ≡ orderIf (ltb d (length ds)) del s) where
       long : r < length (slots l₀)
       long = omega (arith, length-slots l₀, g .fits)
 
@@ -131,23 +144,31 @@ module _ (f : Text) (ds : List ℕ) (l₀ : Text) (n : ℕ) where
       more-seen : take (r + 1) (slots l₀) ≡ take r (slots l₀) ++ (s ∷ [])
       more-seen = rw (add-one, take-suc (slots l₀) r [] long, ← here)
 
-      pub gaps-there : o ≡ Less → d < length ds
-      unfolding headOrder
-      gaps-there z = go (three d (length ds))
+      -- the order is that of the first delete that is left
+      eo : o ≡ headOrder (slotsFor f (drop d ds)) s
+      unfolding orderIf headOrder
+      eo = is-o ∙ go (ltb d (length ds)) refl
         where
-          none : length ds ≤ d → d < length ds
-          none h = clash (cc (ap (λ (D : List Text). headOrder D s) (for-past f ds d h)))
+          go : (u : Bool) → ltb d (length ds) ≡ u → cond u (orderOf del s) More ≡ headOrder (slotsFor f (drop d ds)) s
+          go true e = rw (for-here f ds d (ltb-true d (length ds) e), is-del ∙ before-at f ds d (ltb-true d (length ds) e))
+          go false e = rw (for-past f ds d (ltb-false d (length ds) e))
 
-          go : Three d (length ds) → d < length ds
-          go (lt h) = h
-          go (eq h) = none (omega arith)
-          go (gt h) = none (omega arith)
+      there : o ≡ Less → d < length ds
+      unfolding orderIf
+      there z = go (ltb d (length ds)) refl (sym is-o ∙ z)
+        where
+          go : (u : Bool) → ltb d (length ds) ≡ u → cond u (orderOf del s) More ≡ Less → d < length ds
+          go true e c = ltb-true d (length ds) e
+          go false e c = clash (cc)
+
+      pub gaps-falls : o ≡ Less → n - r + (length ds - (d + 1)) < n - r + (length ds - d)
+      gaps-falls z = omega (arith, there z)
 
       pub gaps-skip : o ≡ Less → Gaps l w r (d + 1)
       gaps-skip z =
           let y : Text = liveSlot (eventAt f (getD ds d 0)) in
           let D : List Text = slotsFor f (drop (d + 1) ds) in
-          let t : slotsFor f (drop d ds) ≡ y ∷ D = for-here f ds d (gaps-there z) in
+          let t : slotsFor f (drop d ds) ≡ y ∷ D = for-here f ds d (there z) in
           let h : Lt y s = head-under s y D (ap (λ (E : List Text). headOrder E s) (sym t) ∙ sym eo ∙ z) in
           let under : All (λ (x : Text). Lt y x) (s ∷ drop (r + 1) (take n (slots l₀))) =
           (h, over-down whole y s (drop (r + 1) (take n (slots l₀))) h (asc-here .0)) in
@@ -156,7 +177,7 @@ module _ (f : Text) (ds : List ℕ) (l₀ : Text) (n : ℕ) where
             fits = g .fits;
             order = g .order;
             end = g .end;
-            upto = omega (arith, gaps-there z);
+            upto = omega (arith, there z);
             kept = g .kept;
             rest = g .rest;
             count = g .count;
@@ -207,7 +228,4 @@ module _ (f : Text) (ds : List ℕ) (l₀ : Text) (n : ℕ) where
             ahead = ahead-here .1;
           }
 
-      pub gaps-falls : o ≡ Less → n - r + (length ds - (d + 1)) < n - r + (length ds - d)
-      gaps-falls z = omega (arith, gaps-there z)
-
-pub ruleset for-compact = (needs, gaps-start, gaps-count, gaps-end, gaps-skip, gaps-gone, gaps-kept, gaps-falls)
+pub ruleset for-compact = (needs, gaps-start, gaps-count, gaps-end)

@@ -7,7 +7,7 @@ use Prim.Native.Nat.{ℕ, _+_, _*_, _-_, _/_, _≤_, _<_}
 use native.Mathlib.Numerals.{add-one}
 use native.Mathlib.Omega.{arith}
 use borrow.Author.Needs.{needs}
-use borrow.Author.Tests.{lt-ltb, le-ltb, ltb-true}
+use borrow.Author.Tests.{lt-ltb, le-ltb, ltb-true, le-leb, lt-leb}
 use lib.Dec.{ltb}
 use lib.ListN.{length, take, drop, getD, set, replicate, length-drop, length-replicate, drop-of-length-le, getD-replicate}
 use lib.Seq.{paste, paste-zero, paste-suc, take-all, getD-drop}
@@ -15,10 +15,9 @@ use Rattle.house.specs.declared.Order.{Order}
 use Rattle.house.specs.declared.Order.the-variants.{More}
 use Rattle.house.specs.Text.{Text, orderOf, below}
 use Rattle.house.proofs.Small.{both}
-use Rattle.house.proofs.Suffix.{drop-here, drop-past}
-use Rattle.events.specs.Events.{eventAt, eventsAt}
+use Rattle.events.specs.Events.{eventAt}
 use Rattle.ledger.specs.Ledger.{slots, liveSlot}
-use Rattle.ledger.specs.Inside.{slotsFor, headOrder, goesLast, lastOf}
+use Rattle.ledger.specs.Inside.{slotBefore, orderIf, goesLast, lastOf}
 use Rattle.events.proofs.MergeLaws.{front-on}
 use Rattle.ledger.proofs.SlotLaws.{slot-at, slot-fits, slots-paste}
 
@@ -68,17 +67,33 @@ listed-is f x p k t e a b = b ∙ ap liveSlot (a ∙ ap (eventAt f) e)
 
 pub ruleset for-listed-slot = (needs, listed-is)
 
--- delete_stands
-module _ (f : Text) (ds : List ℕ) (d : ℕ) (s : Text) where
-  pub stands-there : (t : Text) (o : Order) → d < length ds → t ≡ liveSlot (eventAt f (getD ds d 0)) → o ≡ orderOf t s → o ≡ headOrder (slotsFor f (drop d ds)) s
-  unfolding headOrder slotsFor eventsAt
-  stands-there t o h e c = rw (drop-here ds d h, ← e) c
+-- slot_before
+module _ (f : Text) (ps : List ℕ) (j : ℕ) where
+  pub before-there : (t : Text) → 0 < j → j ≤ length ps → t ≡ liveSlot (eventAt f (getD ps (j - 1) 0)) → t ≡ slotBefore f ps j
+  unfolding slotBefore
+  before-there t h k e = rw (lt-ltb 0 j h, le-leb j (length ps) k) e
 
-  pub stands-none : length ds ≤ d → More ≡ headOrder (slotsFor f (drop d ds)) s
-  unfolding headOrder slotsFor eventsAt
-  stands-none h = rw (drop-past ds d h)
+  pub before-none : j ≤ 0 → replicate 38 0 ≡ slotBefore f ps j
+  unfolding slotBefore
+  before-none h = rw (le-ltb 0 j h)
 
-pub ruleset for-delete-stands = (needs, stands-there, stands-none)
+  pub before-past : 0 < j → length ps < j → replicate 38 0 ≡ slotBefore f ps j
+  unfolding slotBefore
+  before-past h k = rw (lt-ltb 0 j h, lt-leb j (length ps) k)
+
+pub ruleset for-slot-before = (needs, before-there, before-none, before-past)
+
+-- stands_to
+module _ (there : Bool) (t s : Text) where
+  pub stands-there : (o : Order) → there ≡ true → o ≡ orderOf t s → o ≡ orderIf there t s
+  unfolding orderIf
+  stands-there o z e = rw z e
+
+  pub stands-none : there ≡ false → More ≡ orderIf there t s
+  unfolding orderIf
+  stands-none z = rw z
+
+pub ruleset for-stands-to = (needs, stands-there, stands-none)
 
 -- goes_last
 module _ (l t : Text) (i : ℕ) where

@@ -4,12 +4,12 @@ use Prim.Native.Nat.{ℕ, _+_, _-_, _/_, _≤_}
 use mathlib.Core.Path.{_≡_}
 use mathlib.Core.Bool.{Bool, true, not, cond, _&&_}
 use mathlib.Core.List.{List, [], _∷_, map}
-use lib.ListN.{length, getD}
+use lib.ListN.{length, getD, replicate}
 use lib.Dec.{leb, ltb}
 use Rattle.house.specs.declared.Order.{Order}
 use Rattle.house.specs.declared.Order.the-variants.{More}
 use Rattle.house.specs.Text.{Text, all, those, count, adjacent, orderOf, below}
-use Rattle.events.specs.Events.{eventsAt, ascends}
+use Rattle.events.specs.Events.{eventAt, eventsAt, ascends}
 use Rattle.ledger.specs.declared.Validity.{Validity}
 use Rattle.ledger.specs.declared.Validity.the-variants.{Sound, Malformed}
 use Rattle.ledger.specs.Ledger.{slotBytes, slots, isLiveSlot, slotForm, slotFollows, liveIn, foundIn, liveSlot, eventsAfter}
@@ -35,10 +35,13 @@ whole t = t
 unfoldable pub slotsFor : Text → List ℕ → List Text
 slotsFor f ps = map liveSlot (eventsAt f ps)
 
--- how the first slot of a list stands to slot t; above it where there is none
-unfoldable pub headOrder : List Text → Text → Order
-headOrder [] t = More
-headOrder (s ∷ ss) t = orderOf s t
+-- the slot of the event of the line before place j of a list; zeros where there is none
+unfoldable pub slotBefore : Text → List ℕ → ℕ → Text
+slotBefore f ps j = cond (ltb 0 j && leb j (length ps)) (liveSlot (eventAt f (getD ps (j - 1) 0))) (replicate slotBytes 0)
+
+-- how slot t stands to slot s; above it where there is no slot t
+unfoldable pub orderIf : Bool → Text → Text → Order
+orderIf there t s = cond there (orderOf t s) More
 
 -- there is a slot before i, and it does not stand below slot t
 unfoldable pub goesLast : List Text → ℕ → Text → Bool

@@ -12,7 +12,7 @@ ghost use Rattle.events.specs.Events.{eventAt, eventsAt};
 ghost use Rattle.events.specs.Sorted.{place};
 ghost use Rattle.events.specs.Inside.{Asc, Up};
 ghost use Rattle.ledger.specs.Ledger.{slots, eventForm, isLiveSlot, isFreeSlot, slotForm, slotFollows, validOf, eventIn, slotsAsked, foundIn, liveIn, less, eventsAfter, liveSlot, ledgerWith, isFit, updated};
-ghost use Rattle.ledger.specs.Inside.{soundAt, soundFrom, whole, slotsFor, headOrder, goesLast, lastOf, hasRoom, Fit};
+ghost use Rattle.ledger.specs.Inside.{soundAt, soundFrom, whole, slotsFor, slotBefore, orderIf, goesLast, lastOf, hasRoom, Fit};
 
 // What the check of a ledger answers: how many events are live, or that it has not the form.
 pub enum Validity {
@@ -283,12 +283,23 @@ fn listed_slot(file: &[u8], places: &[u32], j: usize) -> [u8; 38]
     slot_of(events::key_at(file, wide(places[j])))
 }
 
-// How the slot of delete d stands to a slot; above it where there is no delete d.
-fn delete_stands(file: &[u8], deletes: &[u32], d: usize, s: [u8; 38]) -> Order
-    ensures { λ r. ⌜ r ≡ headOrder (slotsFor (now (file .entry)) (drop d (now (deletes .entry)))) s ⌝ }
+// The slot of the event of the line before place j of a list; zeros where there is none.
+fn slot_before(file: &[u8], places: &[u32], j: usize) -> [u8; 38]
+    ensures { λ r. ⌜ r ≡ slotBefore (now (file .entry)) (now (places .entry)) j ⌝ }
 {
-    if d < deletes.len() {
-        let t = listed_slot(file, deletes, d);
+    if 0 < j {
+        if j <= places.len() {
+            return listed_slot(file, places, j - 1);
+        }
+    }
+    [0u8; 38]
+}
+
+// How slot t stands to slot s; above it where there is no slot t.
+fn stands_to(there: bool, t: [u8; 38], s: [u8; 38]) -> Order
+    ensures { λ r. ⌜ r ≡ orderIf there t s ⌝ }
+{
+    if there {
         house::compare(&t, &s)
     } else {
         Order::More
@@ -306,12 +317,14 @@ fn compact(ledger: &mut [u8], n: usize, file: &[u8], deletes: &[u32]) -> usize
     let mut w = 0;
     let mut r = 0;
     let mut d = 0;
+    let mut t = slot_before(file, deletes, 1);
     while r < n {
         let s = read_slot(ledger, r);
-        let o = delete_stands(file, deletes, d, s);
+        let o = stands_to(d < deletes.len(), t, s);
         match o {
             Order::Less => {
                 d += 1;
+                t = slot_before(file, deletes, d + 1);
             }
             Order::Same => {
                 r += 1;
@@ -371,13 +384,14 @@ fn merge_in(ledger: &mut [u8], n: usize, file: &[u8], adds: &[u32]) -> usize
     let all = n + adds.len();
     let mut i = n;
     let mut j = adds.len();
+    let mut t = slot_before(file, adds, j);
     while 0 < j {
-        let t = listed_slot(file, adds, j - 1);
         if put_last(ledger, i, i + j - 1, t) {
             i -= 1;
             continue;
         }
         j -= 1;
+        t = slot_before(file, adds, j);
     }
     all
 }
