@@ -2,17 +2,19 @@
 -- Assumes nothing.
 use mathlib.Core.Path.{_≡_, refl, sym, ap, _∙_}
 use mathlib.Core.Bool.{Bool, true, false, cond}
-use mathlib.Core.List.{List}
-use Prim.Native.Nat.{ℕ, _+_, _-_, _/_, _≤_, _<_}
+use mathlib.Core.List.{List, [], _∷_}
+use Prim.Native.Nat.{ℕ, suc, _+_, _-_, _/_, _≤_, _<_}
 use native.Mathlib.Omega.{arith}
 use borrow.Author.Needs.{needs}
 use borrow.Author.Tests.{le-leb, lt-leb, leb-true}
 use lib.Dec.{leb}
 use lib.ListN.{length, take}
-use Rattle.house.specs.Text.{Text}
+use Rattle.house.specs.Text.{Text, those, orderOf, same}
 use Rattle.house.proofs.Small.{both, clash}
+use Rattle.house.proofs.Decisions.{same-true}
 use Rattle.ledger.specs.Ledger.{slotsIn, updated}
-use Rattle.index.specs.Firsts.{over, partOf}
+use Rattle.ledger.proofs.FoundLaws.{those-le}
+use Rattle.index.specs.Firsts.{over, isTyped, partOf}
 use Rattle.index.proofs.OverLaws.{over-taken, length-over, part-few}
 use Rattle.settle.specs.declared.Counts.{Counts}
 use Rattle.settle.specs.declared.Settled.{Settled}
@@ -43,6 +45,61 @@ module _ (f : Text) (ix out out′ : List ℕ) (d : ℕ) (eo : out′ ≡ over (
 
 pub ruleset for-renew-in = (needs, renew-deletes, renewed-in)
 
+-- where all add, none changes and none deletes
+those-all : (p : ℕ → Bool) (xs : List ℕ) → length (those p xs) ≡ length xs → those p xs ≡ xs
+those-all p [] h = refl
+those-all p (x ∷ xs) h = go (p x) (those-all p xs) h
+  where
+    go : (b : Bool) → (length (those p xs) ≡ length xs → those p xs ≡ xs) → length (cond b (x ∷ those p xs) (those p xs)) ≡ suc (length xs)
+        → cond b (x ∷ those p xs) (those p xs) ≡ x ∷ xs
+    go true r e = ap (λ (l : List ℕ). x ∷ l) (r (omega arith))
+    go false r e = absurd (omega (arith, those-le p xs))
+
+those-none : (p q : ℕ → Bool) (xs : List ℕ) → ((x : ℕ) → p x ≡ true → q x ≡ false) → length (those p xs) ≡ length xs → those q xs ≡ []
+those-none p q [] f h = refl
+those-none p q (x ∷ xs) f h = go (those-none p q xs f) (p x) refl h
+  where
+    go : (length (those p xs) ≡ length xs → those q xs ≡ []) → (b : Bool) → p x ≡ b → length (cond b (x ∷ those p xs) (those p xs)) ≡ suc (length xs)
+        → cond (q x) (x ∷ those q xs) (those q xs) ≡ []
+    go r true k e = rw (f x k) (r (omega arith))
+    go r false k e = absurd (omega (arith, those-le p xs))
+
+over-self : (ps : List ℕ) → over ps ps ≡ ps
+over-self [] = refl
+over-self (p ∷ ps) = ap (λ (l : List ℕ). p ∷ l) (over-self ps)
+
+module _ (f : Text) (ix : List ℕ) (a : ℕ) (ea : a ≡ length (partOf f 65 ix)) (all : a ≡ length ix) where
+  all-add : partOf f 65 ix ≡ ix
+  unfolding partOf
+  all-add = those-all (isTyped f 65) ix (sym ea ∙ all)
+
+  -- a line is of one type
+  no-other : (type : ℕ) → same (65 ∷ []) (type ∷ []) ≡ false → partOf f type ix ≡ []
+  unfolding partOf isTyped
+  no-other type h = those-none (isTyped f 65) (isTyped f type) ix (λ p e. rw (same-true _ _ e) h) (sym ea ∙ all)
+
+  no-change : partOf f 67 ix ≡ []
+  unfolding same orderOf
+  no-change = no-other 67 refl
+
+  no-delete : partOf f 68 ix ≡ []
+  unfolding same orderOf
+  no-delete = no-other 68 refl
+
+  -- renew
+  pub all-renewed : (l l′ : Text) → l′ ≡ updated l f ix [] → l′ ≡ updated l f (partOf f 65 ix) (partOf f 68 ix)
+  all-renewed l l′ e = rw (all-add, no-delete) e
+
+  pub all-kept : ix ≡ over (partOf f 65 ix) ix
+  all-kept = rw all-add (sym (over-self ix))
+
+  -- count_types
+  pub counts-all : record { added = a; changed = 0; deleted = 0 } ≡ countsOf f ix
+  unfolding countsOf
+  counts-all = rw (no-change, no-delete, ← ea)
+
+pub ruleset for-renew = (needs, all-renewed, all-kept)
+
 -- count_types
 pub counts-are : (f : Text) (ix : List ℕ) (a c d : ℕ) → a ≡ length (partOf f 65 ix) → c ≡ length (partOf f 67 ix) → d ≡ length (partOf f 68 ix) → record { added = a; changed = c; deleted = d } ≡ countsOf f ix
 unfolding countsOf
@@ -51,7 +108,7 @@ counts-are f ix a c d ea ec ed = rw (ea, ec, ed)
 pub counts-few : (f : Text) (ix : List ℕ) (type n : ℕ) → n ≡ length (partOf f type ix) → length ix ≤ 96154 → n ≤ 96154
 counts-few f ix type n e h = omega (arith, part-few f type ix)
 
-pub ruleset for-count-types = (needs, counts-are, counts-few)
+pub ruleset for-count-types = (needs, counts-all, counts-are, counts-few)
 
 -- room_for
 module _ (f l : Text) (live : ℕ) (ix : List ℕ) where
@@ -104,6 +161,14 @@ module _ (f l : Text) (live : ℕ) (ix : List ℕ) (s : Settled) (es : s ≡ set
   done-few n z =
       leb-true (length ix) 96154 (both (leb (length ix) 96154) (leb (live + length (partOf f 65 ix)) (slotsIn l + length (partOf f 68 ix))) (room-if n z) .0)
 
+  pub done-added : (n : Counts) → s ≡ Done n → n .added ≡ length (partOf f 65 ix)
+  unfolding settledOf countsOf
+  done-added n z = go (hasRoom f l live ix) (sym es ∙ z)
+    where
+      go : (b : Bool) → cond b (Done (countsOf f ix)) NoRoom ≡ Done n → n .added ≡ length (partOf f 65 ix)
+      go true e = sym (cc)
+      go false e = clash (cc)
+
   pub done-ledger : (n : Counts) (l′ : Text) → s ≡ Done n → l′ ≡ updated l f (partOf f 65 ix) (partOf f 68 ix) → l′ ≡ settledLedger f l live ix
   unfolding settledLedger
   done-ledger n l′ z e = rw (room-if n z) e
@@ -123,4 +188,4 @@ module _ (f l : Text) (live : ℕ) (ix : List ℕ) (s : Settled) (es : s ≡ set
   pub as-told : (r : Settled) → s ≡ r → r ≡ settledOf f l live ix
   as-told r z = sym z ∙ es
 
-pub ruleset for-settle = (needs, done-few, done-ledger, done-index, none-ledger, none-index, as-told)
+pub ruleset for-settle = (needs, done-few, done-added, done-ledger, done-index, none-ledger, none-index, as-told)

@@ -40,14 +40,29 @@ fn renew_in(file: &[u8], ledger: &mut [u8], index: &mut [u32], deletes: &mut [u3
     renew_by(file, ledger, index, &deletes[from..d]);
 }
 
-// Brings the ledger up to date by the index of the blocks.
-fn renew(file: &[u8], ledger: &mut [u8], index: &mut [u32])
+// The same, in a room of its own.
+fn renew_parts(file: &[u8], ledger: &mut [u8], index: &mut [u32])
     requires { ⌜ length (now index) ≤ 96154 ⌝ }
     ensures { λ _. ⌜ now (ledger .exit) ≡ updated (now (ledger .entry)) (now (file .entry)) (partOf (now (file .entry)) 65 (now (index .entry))) (partOf (now (file .entry)) 68 (now (index .entry))) ⌝ }
     ensures { λ _. ⌜ now (index .exit) ≡ over (partOf (now (file .entry)) 65 (now (index .entry))) (now (index .entry)) ⌝ }
 {
     let mut deletes = [0u32; 96154];
     renew_in(file, ledger, index, &mut deletes);
+}
+
+// Brings the ledger up to date by the index of the blocks, so many of which add. Where all do, their places are the index as it is.
+fn renew(file: &[u8], ledger: &mut [u8], index: &mut [u32], added: usize)
+    requires { ⌜ added ≡ length (partOf (now file) 65 (now index)) ⌝ }
+    requires { ⌜ length (now index) ≤ 96154 ⌝ }
+    ensures { λ _. ⌜ now (ledger .exit) ≡ updated (now (ledger .entry)) (now (file .entry)) (partOf (now (file .entry)) 65 (now (index .entry))) (partOf (now (file .entry)) 68 (now (index .entry))) ⌝ }
+    ensures { λ _. ⌜ now (index .exit) ≡ over (partOf (now (file .entry)) 65 (now (index .entry))) (now (index .entry)) ⌝ }
+{
+    if added == index.len() {
+        let all = &index[..];
+        ledger::update(ledger, file, all, &all[..0]);
+    } else {
+        renew_parts(file, ledger, index);
+    }
 }
 
 // How many blocks add, change and delete, by the index of the blocks.
@@ -58,6 +73,13 @@ fn count_types(file: &[u8], index: &[u32]) -> Counts
     ensures { λ r. ⌜ r .deleted ≤ 96154 ⌝ }
 {
     let added = index::count_of(file, index, b'A');
+    if added == index.len() {
+        return Counts {
+            added,
+            changed: 0,
+            deleted: 0,
+        };
+    }
     let changed = index::count_of(file, index, b'C');
     let deleted = index::count_of(file, index, b'D');
     Counts {
@@ -96,7 +118,8 @@ pub fn settle(file: &[u8], ledger: &mut [u8], live: usize, index: &mut [u32]) ->
     let s = room_for(file, ledger, live, index);
     match s {
         Settled::Done(n) => {
-            renew(file, ledger, index);
+            let added = n.added;
+            renew(file, ledger, index, added);
             Settled::Done(n)
         }
         Settled::NoRoom => Settled::NoRoom,

@@ -11,4 +11,5 @@ count-types-spec =
     (λ c. search for-count-types)
     (λ c. search for-count-types)
     (λ c. search for-count-types)
+    (λ c. search for-count-types)
     (λ c. search for-count-types))
