@@ -2,6 +2,7 @@
 -- Assumes nothing.
 pub mod ListLaws
 -- What the functions' own needs ask
+mod StepNeeds
 mod ListNeeds
 -- No second answer
 mod OneAnswer

@@ -22,6 +22,7 @@ use Rattle.texts.specs.Leaves.{valueOf}
 use Rattle.texts.proofs.TextLaws.{value-run}
 use Rattle.forms.specs.Leaves.{soundAs}
 use Rattle.lists.specs.Among.{antigenIs, lotIs, doseIn, countIs, countIn, soundCount}
+use Rattle.lists.proofs.StepNeeds.{step-same}
 use Rattle.forms.proofs.FieldLaws.{text-is, kind-is, sound-as}
 use Rattle.forms.proofs.FieldLaws.{field-behind}
 
@@ -106,7 +107,7 @@ counts-are : (l : Rec) (t : Text) (n : ℕ) (ls : List Rec) → t ≡ text l 4 �
 unfolding countIn countIs sameCount sameAntigen
 counts-are l t n ls d e = rw (d, e)
 
--- has_count, count_among: a line l goes on at its field 4
+-- has_count, count_among, counts_alike: a line l goes on at its field 4
 module _ (l v u : Text) (c : v ≡ drop (fieldsLen 3 l) l) (d : u ≡ fieldOf v 1) where
   antigen-is : text (recOf l) 4 ≡ u
   antigen-is = text-is l 4 ∙ sym (d ∙ field-behind l v 3 0 c)
@@ -124,6 +125,10 @@ module _ (l v u : Text) (c : v ≡ drop (fieldsLen 3 l) l) (d : u ≡ fieldOf v 
     pub count-among : (ls : List Rec) (x : Bool) → x ≡ any (countIs u n) ls → x ≡ countIn ls (recOf l)
     count-among ls x e = e ∙ counts-are (recOf l) u n ls (sym antigen-is) (sym dose-there)
 
+    pub count-alike : (p : Rec) (x : Bool) → x ≡ countIs u n p → x ≡ sameCount (recOf l) p
+    unfolding countIs sameCount sameAntigen
+    count-alike p x e = e ∙ rw (antigen-is, dose-there)
+
   pub count-other : (t : Text) (m : ℕ) (x : Bool) → x ≡ same t u → x ≡ false → false ≡ countIs t m (recOf l)
   unfolding countIs
   count-other t m x e h = rw (antigen-is, ← e, h)
@@ -131,6 +136,8 @@ module _ (l v u : Text) (c : v ≡ drop (fieldsLen 3 l) l) (d : u ≡ fieldOf v 
 pub ruleset for-has-count = (needs, count-other, count-here)
 
 pub ruleset for-count-among = (needs, count-among)
+
+pub ruleset for-counts-alike = (needs, count-alike)
 
 -- sets_differ, count_sound
 module _ (a b : List Rec) (x : Bool) (e : x ≡ all (countIn b) a) where
@@ -147,7 +154,7 @@ module _ (a b : List Rec) (x : Bool) (e : x ≡ all (countIn b) a) where
     unfolding setsDiffer allIn countIn
     differ-not k = rw (← e, h, ← f, k)
 
-pub ruleset for-sets-differ = (needs, differ-first, differ-second, differ-not)
+pub ruleset for-sets-differ = (needs, step-same, differ-first, differ-second, differ-not)
 
 module _ (l : Rec) (x : Bool) (e : x ≡ isSound 5 l 4) where
   pub sound-not : x ≡ false → false ≡ soundCount l

@@ -1,8 +1,8 @@
 -- What is asked of each of some lines.
 -- Assumes nothing.
 use Prim.Native.Nat.{ℕ}
-use mathlib.Core.Bool.{Bool, cond, _&&_}
-use mathlib.Core.List.{List}
+use mathlib.Core.Bool.{Bool, true, false, cond, _&&_}
+use mathlib.Core.List.{List, [], _∷_}
 use lib.Dec.{eqb}
 use Rattle.house.specs.Text.{Text, any, same, number}
 use Rattle.lines.specs.Records.{Rec, II, IE, isKind}
@@ -28,6 +28,13 @@ countIs t n p = same t (text p 4) && eqb n (doseOf p)
 -- one of these gives its antigen as often
 unfoldable pub countIn : List Rec → Rec → Bool
 countIn ps l = any (sameCount l) ps
+
+-- these and those are as many, and each gives the antigen of the one at its place as often
+unfoldable pub inStep : List Rec → List Rec → Bool
+inStep [] [] = true
+inStep [] (p ∷ ps) = false
+inStep (l ∷ ls) [] = false
+inStep (l ∷ ls) (p ∷ ps) = sameCount l p && inStep ls ps
 
 -- its antigen and its count are sound
 unfoldable pub soundCount : Rec → Bool

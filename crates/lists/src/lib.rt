@@ -10,8 +10,8 @@ use texts::value;
 ghost use mathlib.Core.Path.{_≡_};
 ghost use Rattle.house.specs.Text.{any, all};
 ghost use Rattle.lines.specs.Records.{recOf, recs};
-ghost use Rattle.rules.specs.Rules.{countsSound, setsDiffer};
-ghost use Rattle.lists.specs.Among.{antigenIs, lotIs, doseIn, countIs, countIn, soundCount};
+ghost use Rattle.rules.specs.Rules.{sameCount, countsSound, setsDiffer};
+ghost use Rattle.lists.specs.Among.{antigenIs, lotIs, doseIn, countIs, countIn, inStep, soundCount};
 
 // Whether a line gives this antigen.
 fn has_antigen(line: &[u8], t: &[u8]) -> bool
@@ -128,10 +128,46 @@ fn all_counted(ps: &[u8], others: &[u8]) -> bool
     true
 }
 
-// Rule 13: whether the antigens with counts of these lines are not one set.
+// Whether two lines give one antigen as often.
+fn counts_alike(line: &[u8], other: &[u8]) -> bool
+    ensures { λ r. ⌜ r ≡ sameCount (recOf (now (line .entry))) (recOf (now (other .entry))) ⌝ }
+{
+    let fourth = behind(line, 3);
+    let dose = dose_of(field_from(behind(fourth, 1), 0));
+    has_count(other, field_from(fourth, 0), dose)
+}
+
+// Whether these lines and those, one by one, give the same antigens as often.
+fn in_step(own: &[u8], first: &[u8]) -> bool
+    ensures { λ r. ⌜ r ≡ inStep (recs (now (own .entry))) (recs (now (first .entry))) ⌝ }
+{
+    let mut at = 0;
+    let mut by = 0;
+    while at < own.len() {
+        if first.len() <= by {
+            return false;
+        }
+        let l = lines::line_at(own, at);
+        let p = lines::line_at(first, by);
+        let end = l.end;
+        let stop = p.end;
+        if counts_alike(&own[at..end], &first[by..stop]) {
+            at = l.next;
+            by = p.next;
+        } else {
+            return false;
+        }
+    }
+    first.len() <= by
+}
+
+// Rule 13: whether the antigens with counts of these lines are not one set. Lines in step are one set, and one walk shows it.
 pub fn sets_differ(own: &[u8], first: &[u8]) -> bool
     ensures { λ r. ⌜ r ≡ setsDiffer (recs (now (own .entry))) (recs (now (first .entry))) ⌝ }
 {
+    if in_step(own, first) {
+        return false;
+    }
     if all_counted(own, first) {
         if all_counted(first, own) { false } else { true }
     } else {

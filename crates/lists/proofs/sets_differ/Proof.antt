@@ -12,4 +12,6 @@ sets-differ-spec =
     (λ c. search for-sets-differ)
     (λ c. search for-sets-differ)
     (λ c. search for-sets-differ)
+    (λ c. search for-sets-differ)
+    (λ c. search for-sets-differ)
     (λ c. search for-sets-differ))
