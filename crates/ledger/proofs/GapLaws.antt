@@ -229,3 +229,23 @@ module _ (f : Text) (ds : List ℕ) (l₀ : Text) (n : ℕ) where
           }
 
 pub ruleset for-compact = (needs, gaps-start, gaps-count, gaps-end)
+
+-- keep_live: nothing is deleted
+less-none : (es : List Text) → less [] es ≡ es
+unfolding less isAmong
+less-none [] = refl
+less-none (e ∷ es) = ap (_∷_ e) (less-none es)
+
+module _ (f : Text) (ds : List ℕ) (h : length ds ≡ 0) (l : Text) (n : ℕ) where
+  pub none-kept : take n (slots l) ≡ less (slotsFor f ds) (take n (slots l))
+  unfolding slotsFor eventsAt
+  none-kept = go ds h
+    where
+      go : (ps : List ℕ) → length ps ≡ 0 → take n (slots l) ≡ less (slotsFor f ps) (take n (slots l))
+      go [] e = sym (less-none (take n (slots l)))
+      go (p ∷ ps) e = absurd (omega arith)
+
+  pub none-count : n ≤ length l / 38 → n ≡ length (less (slotsFor f ds) (take n (slots l)))
+  none-count m = rw (← none-kept) (sym (length-take-le n (slots l) (omega (arith, length-slots l))))
+
+pub ruleset for-keep-live = (needs, none-kept, none-count)

@@ -339,6 +339,20 @@ fn compact(ledger: &mut [u8], n: usize, file: &[u8], deletes: &[u32]) -> usize
     w
 }
 
+// The same; where nothing is deleted, as in most files, all stay where they are.
+fn keep_live(ledger: &mut [u8], n: usize, file: &[u8], deletes: &[u32]) -> usize
+    requires { ⌜ n ≤ length (now ledger) / 38 ⌝ }
+    requires { ⌜ Asc whole (take n (slots (now ledger))) ⌝ }
+    requires { ⌜ Asc whole (slotsFor (now file) (now deletes)) ⌝ }
+    ensures { λ r. ⌜ r ≡ length (less (slotsFor (now (file .entry)) (now (deletes .entry))) (take n (slots (now (ledger .entry))))) ⌝ }
+    ensures { λ r. ⌜ take r (slots (now (ledger .exit))) ≡ less (slotsFor (now (file .entry)) (now (deletes .entry))) (take n (slots (now (ledger .entry)))) ⌝ }
+{
+    if deletes.len() == 0 {
+        return n;
+    }
+    compact(ledger, n, file, deletes)
+}
+
 // Whether there is a slot before i, and it does not stand below slot t.
 fn goes_last(ledger: &[u8], i: usize, t: [u8; 38]) -> bool
     requires { ⌜ i ≤ length (now ledger) / 38 ⌝ }
@@ -473,7 +487,7 @@ fn apply(ledger: &mut [u8], file: &[u8], adds: &[u32], deletes: &[u32])
     ensures { λ _. ⌜ now (ledger .exit) ≡ ledgerWith (length (now (ledger .entry))) (eventsAfter (liveIn (now (ledger .entry))) (eventsAt (now (file .entry)) (now (adds .entry))) (eventsAt (now (file .entry)) (now (deletes .entry)))) ⌝ }
 {
     let live = count_live(ledger);
-    let kept = compact(ledger, live, file, deletes);
+    let kept = keep_live(ledger, live, file, deletes);
     let all = merge_in(ledger, kept, file, adds);
     clear_from(ledger, all * 38);
 }
