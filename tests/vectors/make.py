@@ -310,6 +310,12 @@ def ii(uli, day, vaccine=b"TESTV"):
     return b"II|2|" + uli + b"|A||" + day + b"||" + vaccine + b"|LA|IM|50|0.5|ML|GSK|L1||||||||"
 
 
+def apart(events):
+    """No two of the events are the same."""
+    events = list(events)
+    return len(set(events)) == len(events)
+
+
 def ledger_cases():
     names = [(b"000000001", b"20220901"), (b"000000001", b"20220902"), (b"000000002", b"20220901"), (b"123456789", b"20220901"), (b"123456789", b"20220902"), (b"999999999", b"21991231")]
     file = b"".join(ii(u, d) + b"\n" for u, d in names) + ii(b"123456789", b"20220901", b"TESTW") + b"\n"
@@ -329,7 +335,7 @@ def ledger_cases():
             live = live_in(lent) if ok else []
             out += b"".join(yes(ev[i] in live) for i in adds)
             places = ([starts[i] for i in adds] + [0] * 4)[:4]
-            out += yes(True) + b"".join(num(p) for p in sorted(places, key=lambda p: event_at(file, p)))
+            out += yes(apart(event_at(file, p) for p in places)) + b"".join(num(p) for p in sorted(places, key=lambda p: event_at(file, p)))
             after = sorted([e for e in live if e not in [ev[i] for i in deletes]] + [ev[i] for i in adds])
             rising = lambda ps: all(ev[a] < ev[b] for a, b in zip(ps, ps[1:]))
             in_order = [s[:1] for s in slots(lent)] == sorted([s[:1] for s in slots(lent)], reverse=True)
@@ -377,7 +383,7 @@ def bounds_cases():
         places, can = [three[i % 3] for i in range(n)], n <= PLACES_MOST
         after = sorted(places, key=event_of.get) if can else places
         changes = sum(a != b for a, b in zip(after, after[1:]))
-        out.append(b"sort " + num(n) + yes(can) + num(changes) + num(after[0]) + num(after[-1]))
+        out.append(b"sort " + num(n) + yes(can and apart(event_of[p] for p in places)) + num(changes) + num(after[0]) + num(after[-1]))
     return [(part(most) + part(more) + part(file) + part(struct.pack("<III", *three)), b"\n".join(out))]
 
 

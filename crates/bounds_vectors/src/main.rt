@@ -90,7 +90,8 @@ fn sort_more(file: &[u8], three: &[u8]) {
     say_sort(file, three, &mut places);
 }
 
-// The three places in turn, again and again; then whether they are sorted, how often a place differs from the one before, the first and the last.
+// The three places in turn, again and again; then whether they are sorted and no two events are the same, how often a place differs from the
+// one before, the first and the last.
 fn say_sort(file: &[u8], three: &[u8], places: &mut [u32]) {
     io::write_all(1, b"sort ");
     stream::say(places.len() as u64);

@@ -16,7 +16,8 @@ use Rattle.lines.specs.declared.LineAt.{LineAt}
 use Rattle.lines.specs.Lines.{lineOf, LineIs, linesLen}
 use Rattle.lines.specs.Records.{Rec, IE, recordOf, isKind, recOf, recs}
 use Rattle.lines.proofs.LineLaws.{lines-past, at-next, at-text, at-from, at-in}
-use Rattle.events.specs.Sorted.{canSort, sortedAt}
+use Rattle.events.specs.Events.{eventsAt, ascends}
+use Rattle.events.specs.Sorted.{canSort, sortedAt, sortedApart}
 use Rattle.forms.proofs.FieldLaws.{kind-is}
 use Rattle.rules.specs.Places.{noRec}
 use Rattle.rules.specs.Blocks.{isInBlock, joins, nearestOf, blockIn, openAfter, begins}
@@ -239,10 +240,6 @@ module _ (f : Text) (old : List ℕ) where
         unfolding canBuild
         can = rw (le-leb (length f) 5000000 h, ← e, le-leb n 96154 g, ← new-size, le-leb n (length new) k)
 
-        pub build-done : Blocks n ≡ builtOf f (length old)
-        unfolding builtOf
-        build-done = rw (can, ← e)
-
         is-new : new ≡ firstsOf f ++ drop n old
         is-new = i ∙ over-front (firstsOf f) old (omega (arith, new-size)) ∙ rw (← e)
 
@@ -255,6 +252,16 @@ module _ (f : Text) (old : List ℕ) where
         sorted : sortedAt f (firstsOf f) ≡ indexOf f
         unfolding sortedAt canSort indexOf
         sorted = rw (← e, le-leb n 96154 g)
+
+        apart : sortedApart f (firstsOf f) ≡ ascends (eventsAt f (indexOf f))
+        unfolding sortedApart canSort
+        apart = rw (← e, le-leb n 96154 g, sorted)
+
+        pub build-done : (d : Bool) → d ≡ sortedApart f (take n new) → Blocks n d ≡ builtOf f (length old)
+        unfolding builtOf
+        build-done d j =
+            let l : d ≡ ascends (eventsAt f (indexOf f)) = j ∙ ap (sortedApart f) front ∙ apart in
+            rw (can, ← e, ← l)
 
         sorted-size : length (indexOf f) ≡ n
         sorted-size = index-size f ∙ sym e

@@ -11,7 +11,7 @@ use Rattle.house.specs.Text.{Text, any, those, same, orderOf}
 use Rattle.house.specs.Search.{byOrder, halve}
 use Rattle.lines.specs.Lines.{lineOf, fieldOf, linesLen}
 use Rattle.lines.specs.Records.{Rec}
-use Rattle.events.specs.Events.{eventAt}
+use Rattle.events.specs.Events.{eventAt, eventsAt, ascends}
 use Rattle.events.specs.Sorted.{place, placesMost}
 use Rattle.ledger.specs.Ledger.{Event}
 use Rattle.rules.specs.Places.{Place, placesIn}
@@ -59,8 +59,9 @@ bytesMost = 5000000
 unfoldable pub canBuild : Text → ℕ → Bool
 canBuild f n = leb (length f) bytesMost && (leb (length (firstsOf f)) placesMost && leb (length (firstsOf f)) n)
 
+-- how many blocks there are, and whether no two of them name one event
 unfoldable pub builtOf : Text → ℕ → Built
-builtOf f n = cond (canBuild f n) (Blocks (length (firstsOf f))) TooMany
+builtOf f n = cond (canBuild f n) (Blocks (length (firstsOf f)) (ascends (eventsAt f (indexOf f)))) TooMany
 
 -- the area after: the index in its front. Where the index is not built: the first II lines in the file's order, as many as fit; of a file that
 -- is too long none is looked for, and the area is as it was.

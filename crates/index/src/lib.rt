@@ -10,9 +10,9 @@ pub use parts::keep;
 pub use parts::part_of;
 pub use walk::build;
 
-// An index is built, of so many blocks, or there are too many.
+// An index is built, of so many blocks, and whether no two of them name one event; or there are too many.
 pub enum Built {
-    Blocks(usize),
+    Blocks { blocks: usize, distinct: bool },
     TooMany,
 }
 

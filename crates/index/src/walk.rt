@@ -10,7 +10,7 @@ ghost use mathlib.Core.Bool.{not, cond};
 ghost use Prim.Native.Nat.{_<_, _≤_};
 ghost use mathlib.Core.List.{_++_};
 ghost use lib.ListN.{length, take, drop};
-ghost use Rattle.events.specs.Sorted.{sortedAt};
+ghost use Rattle.events.specs.Sorted.{sortedAt, sortedApart};
 ghost use Rattle.lines.specs.Records.{IE, isKind, recOf};
 ghost use Rattle.rules.specs.Blocks.{joins};
 ghost use Rattle.index.specs.Firsts.{firstsOf, over, builtOf, builtIn};
@@ -83,12 +83,13 @@ fn gather(file: &[u8], index: &mut [u32]) -> usize
     n
 }
 
-// Puts the first n places in the order of their events.
-fn sort_front(file: &[u8], index: &mut [u32], n: usize)
+// Puts the first n places in the order of their events; whether they can be sorted, and no two of the events are the same.
+fn sort_front(file: &[u8], index: &mut [u32], n: usize) -> bool
     requires { ⌜ n ≤ length (now index) ⌝ }
+    ensures { λ r. ⌜ r ≡ sortedApart (now (file .entry)) (take n (now (index .entry))) ⌝ }
     ensures { λ _. ⌜ now (index .exit) ≡ sortedAt (now (file .entry)) (take n (now (index .entry))) ++ drop n (now (index .entry)) ⌝ }
 {
-    events::sort(file, &mut index[..n]);
+    events::sort(file, &mut index[..n])
 }
 
 // Builds the index of a file in an area; not where the file is too long, or its blocks are too many.
@@ -106,6 +107,9 @@ pub fn build(file: &[u8], index: &mut [u32]) -> Built
     if index.len() < n {
         return Built::TooMany;
     }
-    sort_front(file, index, n);
-    Built::Blocks(n)
+    let distinct = sort_front(file, index, n);
+    Built::Blocks {
+        blocks: n,
+        distinct,
+    }
 }

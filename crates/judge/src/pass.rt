@@ -20,7 +20,7 @@ use later::Day;
 use later::Facts;
 use lines::LineAt;
 ghost use mathlib.Core.Path.{_≡_};
-ghost use mathlib.Core.Bool.{true};
+ghost use mathlib.Core.Bool.{true, cond};
 ghost use Prim.Native.Nat.{_+_, _*_, _^_, _≤_, _<_};
 ghost use lib.ListN.{length, take, drop};
 ghost use Rattle.house.specs.Text.{count, front};
@@ -30,7 +30,7 @@ ghost use Rattle.lines.specs.Inside.{part, whole};
 ghost use Rattle.ledger.specs.Ledger.{foundIn};
 ghost use Rattle.rules.specs.Seen.{Setting, Seen};
 ghost use Rattle.rules.specs.Findings.{fieldsFindings, areaAfter};
-ghost use Rattle.index.specs.Firsts.{indexOf, builtIn};
+ghost use Rattle.index.specs.Firsts.{builtIn};
 ghost use Rattle.judge.specs.Inside.{kept, keep};
 ghost use Rattle.judge.specs.Look.{settingBy};
 ghost use Rattle.judge.specs.Fields.{Looks, Told};
@@ -274,17 +274,11 @@ fn walk(
     Walked { findings, declined }
 }
 
-// How many places of the index of a file are to be asked for events named before: none where no two blocks name one event.
-fn places_asked(file: &[u8], index: &[u32]) -> usize
-    requires { ⌜ now index ≡ indexOf (now file) ⌝ }
-    ensures { λ r. ⌜ r ≤ length (now (index .entry)) ⌝ }
-    ensures { λ r. ⌜ Serves (now (file .entry)) (take r (now (index .entry))) ⌝ }
+// How many places of the index are to be asked for events named before: none where no two of its blocks name one event.
+fn places_asked(distinct: bool, blocks: usize) -> usize
+    ensures { λ r. ⌜ r ≡ cond distinct 0 blocks ⌝ }
 {
-    if events::ascending(file, index) {
-        0
-    } else {
-        index.len()
-    }
+    if distinct { 0 } else { blocks }
 }
 
 // Judges a file: builds its index in the room lent, counts its findings, and writes those that fit in the area.
@@ -305,9 +299,9 @@ pub fn judge(
     let built = index::build(file, room);
     match built {
         Built::TooMany => Judged::TooMany,
-        Built::Blocks(blocks) => {
+        Built::Blocks { blocks, distinct } => {
             let from = 0;
-            let asked = places_asked(file, &room[from..blocks]);
+            let asked = places_asked(distinct, blocks);
             let w = walk(file, &room[from..asked], ledger, live, book, q, today, area);
             Judged::Done {
                 blocks,

@@ -1,3 +1,5 @@
+-- `index::walk::build` meets its contract.
+-- Assumes nothing.
 use Rattle.index.proofs.WalkNeeds.{for-build}
 use Rattle.index.proofs.walk.build.Statement.{statement}
 use Rattle.index.proofs.walk.build.Tie as tie

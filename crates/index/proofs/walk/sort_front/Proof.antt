@@ -12,4 +12,4 @@ sort-front-spec =
     (λ c. search for-sort-front)
     (λ c. search for-sort-front)
     (λ c. search for-sort-front)
-    (λ c. search for-sort-front))
+    (λ c. (search for-sort-front, search for-sort-front)))
