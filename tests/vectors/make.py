@@ -349,7 +349,7 @@ def ledger_cases():
     cases = [case(ledger()), case(ledger(), [3]), case(ledger(), [0, 3, 4]), case(ledger(), [0, 1, 2, 3]), case(ledger(ev[3]), [0]), case(ledger(ev[0]), [3]), case(ledger(ev[0], ev[3]), [1], [0]),
              case(ledger(ev[0], ev[2], ev[3]), [1], [2]), case(ledger(ev[0], ev[2], ev[3]), [1]), case(ledger(ev[0], ev[2], ev[3]), [], [0, 2, 3]), case(ledger(ev[0], ev[2], ev[3]), [1, 4, 5], [0, 2, 3]),
              case(ledger(ev[0], ev[2], ev[3]), [], [1]), case(ledger(), [4, 3]), case(ledger(), [3, 3]), case(ledger(ev[0], ev[3]), [], [3, 0]), case(ledger(ev[3]), [6], [3]), case(ledger(ev[3], ev[6]), [5], [3, 6]),
-             case(ledger(ev[5]), [0, 1], []), case(ledger(ev[0], ev[1], ev[2]), [3, 4, 5], [0, 1, 2])]
+             case(ledger(ev[5]), [0, 1], []), case(ledger(ev[0], ev[1], ev[2]), [3, 4, 5], [0, 1, 2]), case(ledger(), [6, 3, 5])]
     for lent in (b"", bytes(38), bytes(76), b"\x01" + ev[0], bytes(37), bytes(39), bytes(37) + b"\x01", b"\x02" + ev[0], bytes(38) + b"\x01" + ev[0], b"\x01" + ev[1] + b"\x01" + ev[0], (b"\x01" + ev[0]) * 2,
                  b"\x01" + event(b"12345678x", b"20220901"), b"\x01" + event(b"123456789", b"20220230"), b"\x01" + event(b"123456789", b"20220901", b""), b"\x01" + event(b"123456789", b"20220901", b"A B"),
                  b"\x01" + event(b"123456789", b"17991231"), b"\x01" + event(b"123456789", b"20220901", b"V" * 20), b"\x01" + event(b"123456789", b"20220901", b"\x7f"), b"\x01" + event(b"000000000", b"18000101", b"!")):
