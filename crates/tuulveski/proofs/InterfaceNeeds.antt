@@ -47,15 +47,15 @@ module _ (x : Answer) where
   unfolding numbersIn numbersOf
   accepted-numbers a c d n p q r s e f g h k = rw (e, f, g, h, k)
 
-  pub shape-numbers : (n cause p : ℕ) → x ≡ BadShape n cause → p ≡ n → numbersIn (numbers 5 p cause 0 0 0 0 0) ≡ numbersOf x
-  unfolding numbersIn numbersOf
-  shape-numbers n cause p e f = rw (e, f)
-
-  pub found-numbers : (n p : ℕ) → x ≡ Findings n → p ≡ n → numbersIn (numbers 6 0 0 p 0 0 0 0) ≡ numbersOf x
-  unfolding numbersIn numbersOf
-  found-numbers n p e f = rw (e, f)
-
   module _ (r : Numbers) where
+    pub shape-numbers : (n cause p : ℕ) → x ≡ BadShape n cause → p ≡ n → r ≡ numbers 5 p cause 0 0 0 0 0 → numbersIn r ≡ numbersOf x
+    unfolding numbersIn numbersOf
+    shape-numbers n cause p e f g = rw (g, e, f)
+
+    pub found-numbers : (n p : ℕ) → x ≡ Findings n → p ≡ n → r ≡ numbers 6 0 0 p 0 0 0 0 → numbersIn r ≡ numbersOf x
+    unfolding numbersIn numbersOf
+    found-numbers n p e f g = rw (g, e, f)
+
     pub date-numbers : x ≡ Date → r ≡ numbers 1 0 0 0 0 0 0 0 → numbersIn r ≡ numbersOf x
     unfolding numbersIn numbersOf
     date-numbers e f = rw (e, f)

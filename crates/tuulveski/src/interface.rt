@@ -35,15 +35,15 @@ fn narrow(n: usize) -> u32
     n as u32
 }
 
-// An answer without a number of its own.
-fn plain(answer: u32) -> Numbers
-    ensures { λ r. ⌜ r ≡ numbers answer 0 0 0 0 0 0 0 ⌝ }
+// A refusal, with the numbers that it names.
+fn refused(answer: u32, line: u32, cause: u32, findings: u32) -> Numbers
+    ensures { λ r. ⌜ r ≡ numbers answer line cause findings 0 0 0 0 ⌝ }
 {
     Numbers {
         answer,
-        line: 0,
-        cause: 0,
-        findings: 0,
+        line,
+        cause,
+        findings,
         added: 0,
         changed: 0,
         deleted: 0,
@@ -72,31 +72,13 @@ fn numbers_of(a: Answer) -> Numbers
             deleted: narrow(deleted),
             not_immunized: narrow(not_immunized),
         },
-        Answer::Date => plain(1),
-        Answer::Long => plain(2),
-        Answer::Book => plain(3),
-        Answer::Ledger => plain(4),
-        Answer::Shape { line, cause } => Numbers {
-            answer: 5,
-            line: narrow(line),
-            cause: cause as u32,
-            findings: 0,
-            added: 0,
-            changed: 0,
-            deleted: 0,
-            not_immunized: 0,
-        },
-        Answer::Findings(n) => Numbers {
-            answer: 6,
-            line: 0,
-            cause: 0,
-            findings: narrow(n),
-            added: 0,
-            changed: 0,
-            deleted: 0,
-            not_immunized: 0,
-        },
-        Answer::Full => plain(7),
+        Answer::Date => refused(1, 0, 0, 0),
+        Answer::Long => refused(2, 0, 0, 0),
+        Answer::Book => refused(3, 0, 0, 0),
+        Answer::Ledger => refused(4, 0, 0, 0),
+        Answer::Shape { line, cause } => refused(5, narrow(line), cause as u32, 0),
+        Answer::Findings(n) => refused(6, 0, 0, narrow(n)),
+        Answer::Full => refused(7, 0, 0, 0),
     }
 }
 

@@ -35,4 +35,6 @@ numbers-of-spec =
     (λ c. search for-numbers-of)
     (λ c. search for-numbers-of)
     (λ c. search for-numbers-of)
+    (λ c. search for-numbers-of)
+    (λ c. search for-numbers-of)
     (λ c. search for-numbers-of))
