@@ -58,7 +58,11 @@ pub room-is : (l f : Text) (gs ds : List ℕ) (live gone : ℕ) → live ≡ len
 unfolding hasRoom
 room-is l f gs ds live gone p q = rw (← p, ← q)
 
-pub ruleset for-has-room = (needs, room-is)
+pub room-more : (l f : Text) (gs ds : List ℕ) (live : ℕ) → live ≡ length (those isLiveSlot (slots l)) → live + length gs ≤ length l / 38 → true ≡ hasRoom l f gs ds
+unfolding hasRoom
+room-more l f gs ds live p h = rw (← p) (sym (le-leb (live + length gs) (length l / 38 + count (foundIn l live) (eventsAt f ds)) (omega arith)))
+
+pub ruleset for-has-room = (needs, room-is, room-more)
 
 -- is_fit
 count-same : {A : Type 0} (p q : A → Bool) (xs : List A) → ((x : A) → p x ≡ q x) → count p xs ≡ count q xs

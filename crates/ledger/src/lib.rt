@@ -449,13 +449,16 @@ fn count_listed(ledger: &[u8], live: usize, file: &[u8], places: &[u32]) -> usiz
     n
 }
 
-// Whether what is live after an update has room.
+// Whether what is live after an update has room. The deletes are looked for only where all would not have room without them.
 fn has_room(ledger: &[u8], file: &[u8], adds: &[u32], deletes: &[u32]) -> bool
     ensures { λ r. ⌜ r ≡ hasRoom (now (ledger .entry)) (now (file .entry)) (now (adds .entry)) (now (deletes .entry)) ⌝ }
 {
     let live = count_live(ledger);
-    let gone = count_listed(ledger, live, file, deletes);
     let slots = ledger.len() / 38;
+    if live + adds.len() <= slots {
+        return true;
+    }
+    let gone = count_listed(ledger, live, file, deletes);
     live + adds.len() <= slots + gone
 }
 

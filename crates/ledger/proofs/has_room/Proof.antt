@@ -12,4 +12,6 @@ has-room-spec =
     (λ c. search for-has-room)
     (λ c. search for-has-room)
     (λ c. search for-has-room)
+    (λ c. search for-has-room)
+    (λ c. search for-has-room)
     (λ c. search for-has-room))
