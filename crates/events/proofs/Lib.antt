@@ -1,6 +1,7 @@
 pub mod Ranks
 pub mod Order
 pub mod EventLaws
+pub mod AlikeNeeds
 pub mod RankLaws
 pub mod MergeLaws
 pub mod RankedLaws

@@ -14,7 +14,7 @@ use lib.Seq.{take-take}
 use Rattle.house.specs.Text.{Text}
 use Rattle.house.proofs.Suffix.{drop-here, drop-past}
 use Rattle.lines.specs.Lines.{pipe, endingOf, lineOf, textLen, lengthen, fieldsOf, fieldOf, fieldsLen}
-use Rattle.lines.proofs.LineLaws.{ending-plain, line-more, line-stop, line-nil, text-is, text-le}
+use Rattle.lines.proofs.LineLaws.{line-more, plain-more, line-stop, line-nil, text-is, text-le}
 use Rattle.lines.proofs.FieldNeeds.{start-zero, start-cons, field-zero}
 use Rattle.lines.proofs.PositionLaws.{field-on}
 
@@ -35,10 +35,6 @@ module _ (s : Text) (i : ℕ) where
         let g : endingOf (getD s i 0 ∷ drop (i + 1) s) ≡ 0 = rw (← drop-here s i h) (sym p ∙ z) in
         ap (λ (t : Text). lineOf t .text) (drop-here s i h) ∙ rw (line-more (getD s i 0) (drop (i + 1) s) g)
 
-    rest-plain : 14 ≤ getD s i 0 → rest s i ≡ getD s i 0 ∷ rest s (i + 1)
-    rest-plain l =
-        ap (λ (t : Text). lineOf t .text) (drop-here s i h) ∙ rw (line-more (getD s i 0) (drop (i + 1) s) (ending-plain (getD s i 0) (drop (i + 1) s) l))
-
 -- start_at: the start x, from a position i with f fields left
 pub skip-none : (s : Text) (at f : ℕ) → f ≡ 0 → at ≡ at + fieldsLen f (lineOf (drop at s) .text)
 skip-none s at f e = rw (e, start-zero, add-zero)
@@ -57,7 +53,7 @@ module _ (s : Text) (i f x : ℕ) (o : 1 ≤ f) (inv : x ≡ i + fieldsLen f (li
   module _ (h : i < length s) where
     module _ (p : getD s i 0 ≡ pipe) where
       over-pipe : x ≡ i + 1 + fieldsLen (f - 1) (rest s (i + 1))
-      over-pipe = rw (inv, rest-plain s i h (omega arith), start-cons f (getD s i 0) (rest s (i + 1)) (λ z. omega arith), eq-eqb _ _ p) (omega arith)
+      over-pipe = rw (inv, plain-more s i h (omega arith), start-cons f (getD s i 0) (rest s (i + 1)) (λ z. omega arith), eq-eqb _ _ p) (omega arith)
 
       pub skip-last : f ≡ 1 → i + 1 ≡ x
       skip-last e = rw (over-pipe, e, start-zero, add-zero)
@@ -73,7 +69,7 @@ module _ (s : Text) (i f x : ℕ) (o : 1 ≤ f) (inv : x ≡ i + fieldsLen f (li
       skip-low e p z = over-text (rest-more s i h e p z)
 
       pub skip-plain : 14 ≤ getD s i 0 → x ≡ i + 1 + fieldsLen f (lineOf (drop (i + 1) s) .text)
-      skip-plain l = over-text (rest-plain s i h l)
+      skip-plain l = over-text (plain-more s i h l)
 
 pub ruleset for-start-at = (needs, skip-none, skip-past, skip-stop, skip-last, skip-pipe, skip-low, skip-plain)
 
@@ -109,7 +105,7 @@ module _ (s : Text) (a i x : ℕ) (inv : x ≡ endIn a i (fieldsOf (lineOf (drop
   module _ (h : i < length s) where
     pub end-pipe : getD s i 0 ≡ pipe → i ≡ x
     unfolding fieldsOf
-    end-pipe p = rw (inv, rest-plain s i h (omega arith), eq-eqb _ _ p, add-zero)
+    end-pipe p = rw (inv, plain-more s i h (omega arith), eq-eqb _ _ p, add-zero)
 
     module _ (n : getD s i 0 ≡ pipe → ⊥) where
       end-text : rest s i ≡ getD s i 0 ∷ rest s (i + 1) → x ≡ endIn a (i + 1) (fieldsOf (rest s (i + 1)))
@@ -120,7 +116,7 @@ module _ (s : Text) (a i x : ℕ) (inv : x ≡ endIn a i (fieldsOf (lineOf (drop
       end-low e p z = end-text (rest-more s i h e p z)
 
       pub end-plain : 14 ≤ getD s i 0 → x ≡ endIn a (i + 1) (fieldsOf (lineOf (drop (i + 1) s) .text))
-      end-plain l = end-text (rest-plain s i h l)
+      end-plain l = end-text (plain-more s i h l)
 
 pub ruleset for-field-end = (needs, end-holds, end-past, end-stop, end-pipe, end-low, end-plain)
 

@@ -12,7 +12,7 @@ use lib.Dec.{eqb}
 use lib.ListN.{length, getD, take, drop, length-drop}
 use lib.Seq.{drop-drop, drop-nil}
 use Rattle.house.specs.Text.{Text}
-use Rattle.house.proofs.Suffix.{drop-past}
+use Rattle.house.proofs.Suffix.{drop-here, drop-past}
 use Rattle.lines.specs.declared.LineAt.{LineAt}
 use Rattle.lines.specs.Lines.{LF, CR, Line, noLine, lfNext, endingOf, grow, byEnding, linesOf, lineOf, textLen, lineLen, lineAt, LineIs, textAt, linesLen}
 
@@ -61,6 +61,12 @@ module _ (b : ℕ) (s : Text) (e : endingOf (b ∷ s) ≡ 0) where
 pub ending-plain : (b : ℕ) (s : Text) → 14 ≤ b → endingOf (b ∷ s) ≡ 0
 unfolding endingOf
 ending-plain b s h = rw (ne-eqb b LF (λ e. omega arith), ne-eqb b CR (λ e. omega arith))
+
+-- the text of a line from a position on, where a byte stands that ends none
+pub plain-more : (s : Text) (i : ℕ) → i < length s → 14 ≤ getD s i 0 → lineOf (drop i s) .text ≡ getD s i 0 ∷ lineOf (drop (i + 1) s) .text
+plain-more s i h l =
+    ap (λ (t : Text). lineOf t .text) (drop-here s i h)
+    ∙ ap (λ (r : Line). r .text) (line-more (getD s i 0) (drop (i + 1) s) (ending-plain (getD s i 0) (drop (i + 1) s) l))
 
 -- it has no text where an ending stands, and none where nothing stands
 pub line-stop : (s : Text) → (endingOf s ≡ 0 → ⊥) → lineOf s .text ≡ []
