@@ -59,7 +59,7 @@ bytesMost = 5000000
 unfoldable pub canBuild : Text → ℕ → Bool
 canBuild f n = leb (length f) bytesMost && (leb (length (firstsOf f)) placesMost && leb (length (firstsOf f)) n)
 
--- how many blocks there are, and whether no two of them name one event
+-- how many blocks there are, and whether no two of them name one event; too many where the index is not built
 unfoldable pub builtOf : Text → ℕ → Built
 builtOf f n = cond (canBuild f n) (Blocks (length (firstsOf f)) (ascends (eventsAt f (indexOf f)))) TooMany
 

@@ -120,7 +120,7 @@ fn judged_fields(k: u8, line: &[u8]) -> usize
     fields
 }
 
-// Every field of a line of kind k, the n-th of the file: its findings put to the others.
+// The fields of a line of kind k, the n-th of the file, of an II those up to 15: their findings put to the others.
 fn judge_each(
     k: u8,
     line: &[u8],

@@ -47,7 +47,7 @@ fn own_end(file: &[u8], joined: bool, from: usize) -> usize
     if joined { ie_end(file, from) } else { from }
 }
 
-// Every field of the line from at to end, the others being told where they stand in the file.
+// The fields of the line from at to end, the others being told where they stand in the file.
 fn judge_parts(
     file: &[u8],
     at: usize,

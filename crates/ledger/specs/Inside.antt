@@ -35,7 +35,7 @@ whole t = t
 unfoldable pub slotsFor : Text → List ℕ → List Text
 slotsFor f ps = map liveSlot (eventsAt f ps)
 
--- the slot of the event of the line before place j of a list; zeros where there is none
+-- the slot of the event of the line at the place before place j of a list; zeros where there is none
 unfoldable pub slotBefore : Text → List ℕ → ℕ → Text
 slotBefore f ps j = cond (ltb 0 j && leb j (length ps)) (liveSlot (eventAt f (getD ps (j - 1) 0))) (replicate slotBytes 0)
 

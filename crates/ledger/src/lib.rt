@@ -283,7 +283,7 @@ fn listed_slot(file: &[u8], places: &[u32], j: usize) -> [u8; 38]
     slot_of(events::key_at(file, wide(places[j])))
 }
 
-// The slot of the event of the line before place j of a list; zeros where there is none.
+// The slot of the event of the line at the place before place j of a list; zeros where there is none.
 fn slot_before(file: &[u8], places: &[u32], j: usize) -> [u8; 38]
     ensures { λ r. ⌜ r ≡ slotBefore (now (file .entry)) (now (places .entry)) j ⌝ }
 {

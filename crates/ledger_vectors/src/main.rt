@@ -93,7 +93,7 @@ fn four(places: &[u8]) -> [u32; 4] {
     out
 }
 
-// Four places in the order of their events.
+// Whether no two of the events of four places are the same, and the places in the order of their events.
 fn say_sorted(file: &[u8], places: &[u8]) {
     let mut sorted = four(places);
     stream::say_yes(events::sort(file, &mut sorted));

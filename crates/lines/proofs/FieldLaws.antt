@@ -81,7 +81,7 @@ fields-split (suc n) (b ∷ t) = go (eqb b pipe) (fields-split n t)
     go true r = omega (arith, r)
     go false r = rw (lengthen-length, lengthen-length) r
 
--- a search for the start of a field passes over n bytes of which fewer fields end
+-- a search for the start of a field passes over n bytes in which fewer fields end
 pub fields-pass : (n f : ℕ) (t : Text) → n ≤ length t → length (fieldsOf (take n t)) < f → fieldsLen f t ≡ n + fieldsLen (f - length (fieldsOf (take n t))) (drop n t)
 unfolding fieldsOf fieldsLen
 fields-pass zero f t l h = let e : f - 0 ≡ f = omega arith in rw (zero-add, e)

@@ -58,7 +58,7 @@ struct Passed {
     left: usize,
 }
 
-// Passes over bytes, sixteen at a time, of which fewer fields end than are left to pass. Few fields are not worth it.
+// Passes over bytes, sixteen at a time, in which fewer fields end than are left to pass. Few fields are not worth it.
 fn pass_over(text: &[u8], f: usize) -> Passed
     requires { ⌜ 1 ≤ f ⌝ }
     ensures { λ r. ⌜ 1 ≤ r .left ⌝ }
