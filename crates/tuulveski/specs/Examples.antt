@@ -9,8 +9,8 @@ use lib.ListN.{replicate}
 use Rattle.house.specs.Text.{Text, bytes, same, all}
 use Rattle.dates.specs.Dates.{isDate, isDay}
 use Rattle.house.specs.Key.{keyOf}
-use Rattle.lines.specs.Records.{II, recOf}
-use Rattle.rules.specs.Forms.{formOf}
+use Rattle.lines.specs.Records.{Rec, II, recOf}
+use Rattle.rules.specs.Forms.{isSound}
 use Rattle.rules.specs.Codes.{codeRead}
 use Rattle.rules.specs.FileE.{fileOf, bookE, fileWith, four, six, seven, fileE}
 use Rattle.answers.specs.Answers.{Lent, Outcome, check, numbersOf}
@@ -90,27 +90,33 @@ p6 = gives (on [] (zeros 38)) (shapeAs 1 7) (zeros 38) (zeros 13)
 unfoldable pub p7 : Bool
 p7 = isDate (bytes "20240229") && isDay 20240229 && not (isDate (bytes "20230229")) && not (isDay 20230229)
 
+-- an II with this reason and this dosage
+abbrev iiWith : String → String → Rec
+iiWith reason dosage =
+    recOf (bytes "II|2|123456789|A||20220901||TESTV|LA|IM|" ++ bytes reason ++ bytes "|" ++ bytes dosage ++ bytes "|ML|GSK|L1||||||||")
+
+abbrev dosageSound : String → Bool
+dosageSound t = isSound II (iiWith "50" t) 12
+
 -- "P8 dosages 0.01 and 999999.99 are sound; 0.00, 1000000 and .5 aren't."
 unfoldable pub p8 : Bool
-p8 =
-    formOf II 12 (bytes "0.01")
-    && formOf II 12 (bytes "999999.99")
-    && not (formOf II 12 (bytes "0.00"))
-    && not (formOf II 12 (bytes "1000000"))
-    && not (formOf II 12 (bytes ".5"))
+p8 = dosageSound "0.01" && dosageSound "999999.99" && not (dosageSound "0.00") && not (dosageSound "1000000") && not (dosageSound ".5")
 
 -- the reason of an II as read
 abbrev readAs : String → Text
-readAs line = codeRead II (recOf (bytes line)) 11
+readAs t = codeRead II (iiWith t "0.5") 11
+
+abbrev reasonSound : String → Bool
+reasonSound t = isSound II (iiWith t "0.5") 11
 
 -- "P9 reasons "2" and " 2" read 02; two blanks are unsound."
 unfoldable pub p9 : Bool
 p9 =
-    formOf II 11 (bytes "2")
-    && formOf II 11 (bytes " 2")
-    && same (readAs "II|2|123456789|A||20220901||TESTV|LA|IM|2|") (bytes "02")
-    && same (readAs "II|2|123456789|A||20220901||TESTV|LA|IM| 2|") (bytes "02")
-    && not (formOf II 11 (bytes "  "))
+    reasonSound "2"
+    && reasonSound " 2"
+    && same (readAs "2") (bytes "02")
+    && same (readAs " 2") (bytes "02")
+    && not (reasonSound "  ")
 
 -- "P10 PO with LA: II 9 rule 9 only."
 unfoldable pub p10 : Bool
