@@ -1,6 +1,6 @@
 -- What each need of the steps of the check asks.
 -- Assumes nothing.
-use mathlib.Core.Path.{_≡_, refl, sym, ap, _∙_}
+use mathlib.Core.Path.{_≡_, refl, sym, ap, _∙_, subst}
 use mathlib.Core.Bool.{Bool, true, false, cond}
 use mathlib.Core.List.{List, [], _∷_}
 use Prim.Native.Nat.{ℕ, zero, suc, _/_, _≤_, _<_}
@@ -19,7 +19,8 @@ use Rattle.book.specs.declared.Sections.{Sections}
 use Rattle.book.specs.declared.Validity.{Validity as BookValidity}
 use Rattle.book.specs.declared.Validity.the-variants as the-book
 use Rattle.book.specs.Book.{Sound, validOf as bookValid}
-use Rattle.book.proofs.StandingLaws.{valid-sound, valid-bad}
+use Rattle.book.specs.LookUp.{guided}
+use Rattle.book.proofs.StandingLaws.{valid-sound, valid-bad, book-small, guided-starts}
 use Rattle.ledger.specs.declared.Validity.{Validity as LedgerValidity}
 use Rattle.ledger.specs.declared.Validity.the-variants as the-ledger
 use Rattle.ledger.proofs.EventLaws.{among-in}
@@ -131,41 +132,42 @@ roomed-by file ledger today book area a l e =
     go true = refl
     go false = refl
 
-module _ (today : ℕ) (file book ledger area : Text) (q : Sections) (live : ℕ) (ready : Ready (lent today file book ledger area) q live) (right : shapeOf file ≡ Right) where
+module _ (file : Text) (right : shapeOf file ≡ Right) (short : length file ≤ 5000000) where
   few : length (firstsOf file) ≤ 96154
-  few = capacity file right (ready .short)
+  few = capacity file right short
 
-  by-halving : findingsBy today file book q ledger live ≡ findings (lent today file book ledger area)
+  can : (k : ℕ) → k ≡ 96154 → canBuild file k ≡ true
+  unfolding canBuild
+  can k size = rw (le-leb (length file) 5000000 short, le-leb (length (firstsOf file)) 96154 few, size, le-leb (length (firstsOf file)) 96154 few)
+
+-- the bytes start with the book
+module _ (today : ℕ) (file bytes ledger area : Text) (q : Sections) (live : ℕ) (ready : Ready (lent today file (take (q .end) bytes) ledger area) q live) where
+  by-look-up : findingsBy today file bytes q ledger live ≡ findings (lent today file (take (q .end) bytes) ledger area)
   unfolding findingsBy findings settingOf
-  by-halving = ap (λ (s : Setting). findingsOf s file) (setting-is today book q ledger live (ready .book) (ready .ledger) (ready .live-is))
+  by-look-up = ap (λ (s : Setting). findingsOf s file) (setting-is today bytes q ledger live (ready .book) (ready .ledger) (ready .live-is))
 
-  module _ (k : ℕ) (size : k ≡ 96154) where
-    can : canBuild file k ≡ true
-    unfolding canBuild
-    can = rw (le-leb (length file) 5000000 (ready .short), le-leb (length (firstsOf file)) 96154 few, size, le-leb (length (firstsOf file)) 96154 few)
-
-    judged-is : (j : Judged) → j ≡ judgedOf today file book q ledger live k → j ≡ Done (length (firstsOf file)) (length (findings (lent today file book ledger area))) (count (isKind IN) (recs file))
-    unfolding judgedOf
-    judged-is j e = e ∙ rw (can, by-halving)
+  judged-is : shapeOf file ≡ Right → (k : ℕ) → k ≡ 96154 → (j : Judged) → j ≡ judgedOf today file bytes q ledger live k → j ≡ Done (length (firstsOf file)) (length (findings (lent today file (take (q .end) bytes) ledger area))) (count (isKind IN) (recs file))
+  unfolding judgedOf
+  judged-is right k size j e = e ∙ rw (can file right (ready .short) k size, by-look-up)
 
 -- judge_all
-module _ (today : ℕ) (file book ledger area : Text) (j : Judged) (q : Sections) (live k : ℕ) (ej : j ≡ judgedOf today file book q ledger live k) (size : k ≡ 96154) (right : shapeOf file ≡ Right) (ready : Ready (lent today file book ledger area) q live) where
-  pub tally-is : (b n m : ℕ) → j ≡ Done b n m → tally b n m ≡ tallyOf (lent today file book ledger area)
+module _ (today : ℕ) (file bytes ledger area : Text) (j : Judged) (q : Sections) (live k : ℕ) (ej : j ≡ judgedOf today file bytes q ledger live k) (size : k ≡ 96154) (right : shapeOf file ≡ Right) (ready : Ready (lent today file (take (q .end) bytes) ledger area) q live) where
+  pub tally-is : (b n m : ℕ) → j ≡ Done b n m → tally b n m ≡ tallyOf (lent today file (take (q .end) bytes) ledger area)
   unfolding tallyOf notImmunized
   tally-is b n m z =
-      let e : Done b n m ≡ Done (length (firstsOf file)) (length (findings (lent today file book ledger area))) (count (isKind IN) (recs file)) = sym z ∙ judged-is today file book ledger area q live ready right k size j ej in
+      let e : Done b n m ≡ Done (length (firstsOf file)) (length (findings (lent today file (take (q .end) bytes) ledger area))) (count (isKind IN) (recs file)) = sym z ∙ judged-is today file bytes ledger area q live ready right k size j ej in
       let eb : b ≡ length (firstsOf file) = cc in
-      let en : n ≡ length (findings (lent today file book ledger area)) = cc in
+      let en : n ≡ length (findings (lent today file (take (q .end) bytes) ledger area)) = cc in
       let em : m ≡ count (isKind IN) (recs file) = cc in
       rw (eb, en, em)
 
-  pub tally-never : (t : Tally) → j ≡ TooMany → t ≡ tallyOf (lent today file book ledger area)
-  tally-never t z = clash (cc (judged-is today file book ledger area q live ready right k size j ej))
+  pub tally-never : (t : Tally) → j ≡ TooMany → t ≡ tallyOf (lent today file (take (q .end) bytes) ledger area)
+  tally-never t z = clash (cc (judged-is today file bytes ledger area q live ready right k size j ej))
 
-module _ (today : ℕ) (file book ledger area : Text) (q : Sections) (live : ℕ) where
-  pub tally-area : (area′ : Text) (k : ℕ) → area′ ≡ judgedArea today file book q ledger live k area → k ≡ 96154 → shapeOf file ≡ Right → Ready (lent today file book ledger area) q live → area′ ≡ areaAfter area (findings (lent today file book ledger area))
+module _ (today : ℕ) (file bytes ledger area : Text) (q : Sections) (live : ℕ) where
+  pub tally-area : (area′ : Text) (k : ℕ) → area′ ≡ judgedArea today file bytes q ledger live k area → k ≡ 96154 → shapeOf file ≡ Right → Ready (lent today file (take (q .end) bytes) ledger area) q live → area′ ≡ areaAfter area (findings (lent today file (take (q .end) bytes) ledger area))
   unfolding judgedArea
-  tally-area area′ k e size right ready = e ∙ rw (can today file book ledger area q live ready right k size, by-halving today file book ledger area q live ready right)
+  tally-area area′ k e size right ready = e ∙ rw (can file right (ready .short) k size, by-look-up today file bytes ledger area q live ready)
 
 -- what a tally says
 module _ (today : ℕ) (file book ledger area : Text) (t : Tally) (et : t ≡ tallyOf (lent today file book ledger area)) where
@@ -193,7 +195,7 @@ module _ (today : ℕ) (file book ledger area : Text) (t : Tally) (et : t ≡ ta
     index-long = index-size file ∙ sym blocks-are
 
     fits : length (indexOf file) ≤ length room
-    fits = omega (arith, index-size file, few today file book ledger area q live ready right)
+    fits = omega (arith, index-size file, few file right (ready .short))
 
     room-part : t .blocks ≤ length room′
     room-part = omega (arith, ap length er, length-over (indexOf file) room, index-long, fits)
@@ -223,15 +225,15 @@ module _ (today : ℕ) (file book ledger area : Text) (t : Tally) (et : t ≡ ta
         }
 
 -- judge_all
-module _ (today : ℕ) (file book ledger area : Text) (j : Judged) (q : Sections) (live : ℕ) (room room′ : List ℕ) (ej : j ≡ judgedOf today file book q ledger live (length room)) (er : room′ ≡ builtIn file room) (size : length room ≡ 96154) (right : shapeOf file ≡ Right) (ready : Ready (lent today file book ledger area) q live) where
+module _ (today : ℕ) (file bytes ledger area : Text) (j : Judged) (q : Sections) (live : ℕ) (room room′ : List ℕ) (ej : j ≡ judgedOf today file bytes q ledger live (length room)) (er : room′ ≡ builtIn file room) (size : length room ≡ 96154) (right : shapeOf file ≡ Right) (ready : Ready (lent today file (take (q .end) bytes) ledger area) q live) where
   pub tally-judges : (b n m : ℕ) → j ≡ Done b n m → Judges file ledger live (tally b n m) room′
   unfolding builtIn
   tally-judges b n m z =
-      judges today file book ledger area (tally b n m) (tally-is today file book ledger area j q live (length room) ej size right ready b n m z) room room′
-      (er ∙ rw (can today file book ledger area q live ready right (length room) size)) size right q live ready
+      judges today file (take (q .end) bytes) ledger area (tally b n m) (tally-is today file bytes ledger area j q live (length room) ej size right ready b n m z) room room′
+      (er ∙ rw (can file right (ready .short) (length room) size)) size right q live ready
 
   pub never-judges : (t : Tally) → j ≡ TooMany → Judges file ledger live t room′
-  never-judges t z = clash (cc (judged-is today file book ledger area q live ready right (length room) size j ej))
+  never-judges t z = clash (cc (judged-is today file bytes ledger area q live ready right (length room) size j ej))
 
 pub ruleset for-judge-all = (needs, tally-is, tally-never, tally-area, tally-judges, never-judges)
 
@@ -258,3 +260,16 @@ module _ (file ledger : Text) (live : ℕ) (t : Tally) (room : List ℕ) (g : Ju
   judges-settling f = g .settling f
 
 pub ruleset for-judged-in = (needs, with-findings, settled-on, judges-part, judges-settling)
+
+-- judged_by
+module _ (today : ℕ) (file book ledger area : Text) (q : Sections) (live : ℕ) (ready : Ready (lent today file book ledger area) q live) (room bytes : Text) (size : length room ≡ 327680) (e : bytes ≡ guided book q room) where
+  starts : take (q .end) bytes ≡ book
+  starts = ap (take (q .end)) e ∙ guided-starts book q room (ready .book) (omega (arith, book-small book q (ready .book)))
+
+  pub guided-ready : Ready (lent today file (take (q .end) bytes) ledger area) q live
+  guided-ready = subst (λ (b : Text). Ready (lent today file b ledger area) q live) (sym starts) ready
+
+  pub guided-on : (o : Outcome) → o ≡ judged (lent today file (take (q .end) bytes) ledger area) → o ≡ judged (lent today file book ledger area)
+  guided-on o f = f ∙ ap (λ (b : Text). judged (lent today file b ledger area)) starts
+
+pub ruleset for-judged-by = (needs, guided-ready, guided-on)

@@ -23,7 +23,7 @@ struct Tally {
     declined: usize,
 }
 
-// Judges a file of right shape: the findings go to their area, and the index of the blocks to the front of a room.
+// Judges a file of right shape, by a book with its guesses: the findings go to their area, and the index of the blocks to the front of a room.
 fn judge_all(
     today: u32,
     file: &[u8],
@@ -34,11 +34,11 @@ fn judge_all(
     area: &mut [u8],
     room: &mut [u32],
 ) -> Tally
-    requires { ⌜ Ready (lent today (now file) (now book) (now ledger) (now area)) q live ⌝ }
+    requires { ⌜ Ready (lent today (now file) (take (q .end) (now book)) (now ledger) (now area)) q live ⌝ }
     requires { ⌜ shapeOf (now file) ≡ Right ⌝ }
     requires { ⌜ length (now room) ≡ 96154 ⌝ }
-    ensures { λ r. ⌜ r ≡ tallyOf (lent today (now (file .entry)) (now (book .entry)) (now (ledger .entry)) (now (area .entry))) ⌝ }
-    ensures { λ _. ⌜ now (area .exit) ≡ areaAfter (now (area .entry)) (findings (lent today (now (file .entry)) (now (book .entry)) (now (ledger .entry)) (now (area .entry)))) ⌝ }
+    ensures { λ r. ⌜ r ≡ tallyOf (lent today (now (file .entry)) (take (q .end) (now (book .entry))) (now (ledger .entry)) (now (area .entry))) ⌝ }
+    ensures { λ _. ⌜ now (area .exit) ≡ areaAfter (now (area .entry)) (findings (lent today (now (file .entry)) (take (q .end) (now (book .entry))) (now (ledger .entry)) (now (area .entry)))) ⌝ }
     ensures { λ r. ⌜ Judges (now (file .entry)) (now (ledger .entry)) live r (now (room .exit)) ⌝ }
 {
     let j = judge::judge(today, file, book, q, ledger, live, room, area);
@@ -85,7 +85,7 @@ fn settle_front(
     }
 }
 
-// From FINDINGS on, in a room for the index.
+// From FINDINGS on, by a book with its guesses, in a room for the index.
 fn judged_in(
     today: u32,
     file: &[u8],
@@ -96,10 +96,10 @@ fn judged_in(
     area: &mut [u8],
     room: &mut [u32],
 ) -> Answer
-    requires { ⌜ Ready (lent today (now file) (now book) (now ledger) (now area)) q live ⌝ }
+    requires { ⌜ Ready (lent today (now file) (take (q .end) (now book)) (now ledger) (now area)) q live ⌝ }
     requires { ⌜ shapeOf (now file) ≡ Right ⌝ }
     requires { ⌜ length (now room) ≡ 96154 ⌝ }
-    ensures { λ r. ⌜ left r (now (ledger .exit)) (now (area .exit)) ≡ judged (lent today (now (file .entry)) (now (book .entry)) (now (ledger .entry)) (now (area .entry))) ⌝ }
+    ensures { λ r. ⌜ left r (now (ledger .exit)) (now (area .exit)) ≡ judged (lent today (now (file .entry)) (take (q .end) (now (book .entry))) (now (ledger .entry)) (now (area .entry))) ⌝ }
 {
     let n = judge_all(today, file, book, q, ledger, live, area, room);
     let findings = n.findings;
@@ -110,7 +110,45 @@ fn judged_in(
     }
 }
 
-// From FINDINGS on. A file of right shape has 96154 blocks at most.
+// From FINDINGS on, by a book with its guesses. A file of right shape has 96154 blocks at most.
+fn judged_with(
+    today: u32,
+    file: &[u8],
+    book: &[u8],
+    q: Sections,
+    ledger: &mut [u8],
+    live: usize,
+    area: &mut [u8],
+) -> Answer
+    requires { ⌜ Ready (lent today (now file) (take (q .end) (now book)) (now ledger) (now area)) q live ⌝ }
+    requires { ⌜ shapeOf (now file) ≡ Right ⌝ }
+    ensures { λ r. ⌜ left r (now (ledger .exit)) (now (area .exit)) ≡ judged (lent today (now (file .entry)) (take (q .end) (now (book .entry))) (now (ledger .entry)) (now (area .entry))) ⌝ }
+{
+    let mut room = [0u32; 96154];
+    judged_in(today, file, book, q, ledger, live, area, &mut room)
+}
+
+// From FINDINGS on, in a room for the book with its guesses.
+fn judged_by(
+    today: u32,
+    file: &[u8],
+    book: &[u8],
+    q: Sections,
+    ledger: &mut [u8],
+    live: usize,
+    area: &mut [u8],
+    room: &mut [u8],
+) -> Answer
+    requires { ⌜ Ready (lent today (now file) (now book) (now ledger) (now area)) q live ⌝ }
+    requires { ⌜ shapeOf (now file) ≡ Right ⌝ }
+    requires { ⌜ length (now room) ≡ 327680 ⌝ }
+    ensures { λ r. ⌜ left r (now (ledger .exit)) (now (area .exit)) ≡ judged (lent today (now (file .entry)) (now (book .entry)) (now (ledger .entry)) (now (area .entry))) ⌝ }
+{
+    book::guide(book, q, room);
+    judged_with(today, file, room, q, ledger, live, area)
+}
+
+// From FINDINGS on. A book has 262144 bytes at most, and its guesses have 65536.
 fn judged(
     today: u32,
     file: &[u8],
@@ -124,8 +162,8 @@ fn judged(
     requires { ⌜ shapeOf (now file) ≡ Right ⌝ }
     ensures { λ r. ⌜ left r (now (ledger .exit)) (now (area .exit)) ≡ judged (lent today (now (file .entry)) (now (book .entry)) (now (ledger .entry)) (now (area .entry))) ⌝ }
 {
-    let mut room = [0u32; 96154];
-    judged_in(today, file, book, q, ledger, live, area, &mut room)
+    let mut room = [0u8; 327680];
+    judged_by(today, file, book, q, ledger, live, area, &mut room)
 }
 
 // From SHAPE on.

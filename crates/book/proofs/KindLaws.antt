@@ -2,12 +2,12 @@
 -- Assumes nothing.
 use mathlib.Core.Path.{_≡_, refl, sym, ap, _∙_, subst}
 use mathlib.Core.Bool.{Bool, true, false, _||_}
-use mathlib.Core.List.{List, [], _∷_}
+use mathlib.Core.List.{List, [], _∷_, _++_}
 use Prim.Native.Nat.{ℕ, zero, suc, _+_, _*_, _≤_, _<_}
 use native.Mathlib.Nat.{not-suc-le-zero, le-of-suc-le-suc, suc-mul, le-refl}
 use native.Mathlib.Omega.{arith}
-use lib.ListN.{length, drop, length-drop}
-use lib.Seq.{drop-drop}
+use lib.ListN.{length, take, drop, length-drop}
+use lib.Seq.{drop-drop, take-append-le, drop-append-le}
 use Rattle.house.specs.Text.{Text, any, orderOf}
 use Rattle.house.specs.declared.Order.the-variants.{Less}
 use Rattle.house.proofs.Small.{Three, lt, eq, gt, three}
@@ -83,6 +83,41 @@ module _ (k : ℕ) where
   row-asc (suc n) c t r i zero h l = absurd (not-suc-le-zero h)
   row-asc (suc n) c t r zero (suc j) h l = rw (row-first t, row-next t j) (row-above n _ (drop (bodyWidth k + 1) t) (r .3) j (le-of-suc-le-suc l))
   row-asc (suc n) c t r (suc i) (suc j) h l = rw (row-next t i, row-next t j) (row-asc n _ (drop (bodyWidth k + 1) t) (r .3) i j (le-of-suc-le-suc h) (le-of-suc-le-suc l))
+
+  -- bytes behind them alter nothing
+  module _ (more : Text) where
+    entry-longer : (t : Text) → bodyWidth k + 1 ≤ length t → entryOf k (drop 1 (t ++ more)) ≡ entryOf k (drop 1 t)
+    unfolding entryOf
+    entry-longer t l =
+        let d : drop 1 (t ++ more) ≡ drop 1 t ++ more = drop-append-le 1 t more (omega arith) in
+        let e : take (bodyWidth k) (drop 1 t ++ more) ≡ take (bodyWidth k) (drop 1 t) = take-append-le (bodyWidth k) (drop 1 t) more (omega (arith, length-drop 1 t)) in
+        rw (d, e)
+
+    rest-longer : (t : Text) → bodyWidth k + 1 ≤ length t → drop (bodyWidth k + 1) (t ++ more) ≡ drop (bodyWidth k + 1) t ++ more
+    rest-longer t l = drop-append-le (bodyWidth k + 1) t more l
+
+    first-in : (n : ℕ) (t : Text) → suc n * (bodyWidth k + 1) ≤ length t → (bodyWidth k + 1 ≤ length t) × (n * (bodyWidth k + 1) ≤ length (drop (bodyWidth k + 1) t))
+    first-in n t l = (omega (arith, suc-mul n (bodyWidth k + 1)), omega (arith, suc-mul n (bodyWidth k + 1), length-drop (bodyWidth k + 1) t))
+
+    pub rows-longer : (n : ℕ) (c t : Text) → Rows c t n → n * (bodyWidth k + 1) ≤ length t → Rows c (t ++ more) n
+    rows-longer zero c t r l = tt
+    rows-longer (suc n) c t r l =
+        let y = first-in n t l in
+        let d : drop 1 (t ++ more) ≡ drop 1 t ++ more = drop-append-le 1 t more (omega (arith, y .0)) in
+        let e = entry-longer t (y .0) in
+        (
+          ap (λ (u : Text). u ++ more) (r .0) ∙ ap (λ (u : Text). k ∷ u) (sym d),
+          ap entryForm e ∙ r .1,
+          ap (λ (x : Entry). orderOf c (codeOf x)) e ∙ r .2,
+          subst (λ (x : Entry). Rows (codeOf x) (drop (bodyWidth k + 1) (t ++ more)) n) (sym e)
+          (subst (λ (u : Text). Rows (codeOf (entryOf k (drop 1 t))) u n) (sym (rest-longer t (y .0))) (rows-longer n _ (drop (bodyWidth k + 1) t) (r .3) (y .1))),
+        )
+
+    pub any-longer : (p : Entry → Bool) (n : ℕ) (t : Text) → n * (bodyWidth k + 1) ≤ length t → anyRow p (t ++ more) n ≡ anyRow p t n
+    any-longer p zero t l = refl
+    any-longer p (suc n) t l =
+        let y = first-in n t l in
+        rw (entry-longer t (y .0), rest-longer t (y .0), any-longer p n (drop (bodyWidth k + 1) t) (y .1))
 
   -- a test that fails of all, or of all but one
   module _ (p : Entry → Bool) where

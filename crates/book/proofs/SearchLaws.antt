@@ -1,4 +1,5 @@
--- What each need of the look-up asks: `Sections::start`, `codes_fit`, `code_order`, `section_count`, `probe`, `seek` and `find`.
+-- What each need of the look-up asks: `Sections::start`, `codes_fit`, `code_order`, `section_count`, `probe`, `found_if`, `guessed`, `seek`, `sought`
+-- and `find`.
 -- Assumes nothing.
 use mathlib.Core.Path.{_≡_, refl, sym, ap, _∙_}
 use mathlib.Core.Bool.{Bool, true, false}
@@ -6,13 +7,13 @@ use mathlib.Core.List.{[], _∷_}
 use Prim.Native.Nat.{ℕ, zero, suc, _+_, _-_, _*_, _/_, _≤_, _<_}
 use native.Mathlib.Nat.{add-sub-cancel-left, suc-mul, mul-le-mul-right, div-mul-le-self, not-suc-le-zero, le-of-suc-le-suc}
 use native.Mathlib.Omega.{arith}
-use borrow.Author.Tests.{ne-eqb, le-leb, lt-leb, leb-true}
+use borrow.Author.Tests.{ne-eqb, le-leb, lt-leb, le-ltb, lt-ltb, leb-true}
 use borrow.Author.Needs.{needs}
 use lib.Dec.{leb}
 use lib.ListN.{length, take, drop, length-drop}
 use lib.Seq.{drop-drop, take-add, length-take-le}
 use Rattle.house.specs.Text.{Text, orderOf, pad}
-use Rattle.house.specs.Search.{halve}
+use Rattle.house.specs.Search.{byOrder, halve}
 use Rattle.house.specs.declared.Order.{Order}
 use Rattle.house.specs.declared.Order.the-variants.{Less, Same, More}
 use Rattle.house.proofs.Small.{both}
@@ -20,10 +21,12 @@ use Rattle.house.proofs.OrderAlgebra.{orElse, order-append}
 use Rattle.house.proofs.OrderLaws.{length-pad}
 use Rattle.house.proofs.SearchLaws.{Halves, halves-start, halves-end, turn-up, turn-down, turn-hit}
 use Rattle.book.specs.declared.Sections.{Sections}
+use Rattle.book.specs.declared.Position.{Position}
+use Rattle.book.specs.declared.Found.{Found}
 use Rattle.book.specs.declared.Found.the-variants.{At, Absent}
 use Rattle.book.specs.Book.{firstWidth, secondWidth, codeWidth, bodyWidth, filled, codeText}
-use Rattle.book.specs.LookUp.{sectionStart, countIn, placeOf, orderAt, foundAt, fits, foundIn}
-use Rattle.book.specs.Inside.{codePadded, codeOrder}
+use Rattle.book.specs.LookUp.{sectionStart, countIn, placeOf, orderAt, foundAt, fits, guess, guessedIn, halvedIn, soughtIn, foundIn}
+use Rattle.book.specs.Inside.{codePadded, codeOrder, foundIf}
 use Rattle.book.proofs.WidthLaws.{code-parts, body-parts}
 
 -- Sections::start
@@ -154,6 +157,38 @@ module _ (s : Text) (from n i w p q : ℕ) (h : i < n) (g : n * w ≤ length s -
 
 pub ruleset for-probe = (needs, probe-mul, probe-add, probe-body, probe-code)
 
+-- found_if
+module _ (o : Order) (at : ℕ) where
+  pub found-less : o ≡ Less → Absent ≡ foundIf o at
+  unfolding foundIf
+  found-less e = rw e
+
+  pub found-more : o ≡ More → Absent ≡ foundIf o at
+  unfolding foundIf
+  found-more e = rw e
+
+  pub found-same : o ≡ Same → At (record { at = at }) ≡ foundIf o at
+  unfolding foundIf
+  found-same e = rw e
+
+pub ruleset for-found-if = (needs, found-less, found-more, found-same)
+
+-- guessed
+module _ (s : Text) (q : Sections) (k : ℕ) (a b : Text) (f : fits k a b ≡ true) (from n i : ℕ) (ef : from ≡ sectionStart q k) (en : n ≡ countIn s q k) (ei : i ≡ guess s q k (codeText k a b)) where
+  pub guessed-past : n ≤ i → Absent ≡ guessedIn s q k (codeText k a b)
+  unfolding guessedIn
+  guessed-past h = rw (← en, ← ei, le-ltb i n h)
+
+  pub guessed-bound : (w : ℕ) → n * w ≤ length s - sectionStart q k → n * w ≤ length s - from
+  guessed-bound w h = rw ef h
+
+  pub guessed-is : (r : Found) (o : Order) (at w p v : ℕ) → i < n → w ≡ bodyWidth k + 1 → p ≡ firstWidth k → v ≡ secondWidth k → at ≡ from + i * w → o ≡ codeOrder s (from + i * w + 1) p v a b → r ≡ foundIf o at → r ≡ guessedIn s q k (codeText k a b)
+  unfolding guessedIn orderAt foundAt placeOf foundIf codeOrder codePadded codeWidth
+  guessed-is r o at w p v h ew ep eq ea eo er =
+      er ∙ rw (eo, ea, ← en, ← ei, lt-ltb i n h, ← ef, code-text k a b f, ew, ep, eq)
+
+pub ruleset for-guessed = (needs, guessed-past, guessed-bound, guessed-is)
+
 -- seek: what is left to halve
 abbrev pub Seeks : Text → ℕ → ℕ → ℕ → Text → ℕ → ℕ → Type 0
 Seeks s k from n x lo hi = Halves (orderAt s k from x) (foundAt k from) Absent (halve (orderAt s k from x) (foundAt k from) Absent n 0 n) lo hi
@@ -178,15 +213,15 @@ module _ (s : Text) (k from n : ℕ) where
       pub seek-down : o ≡ More → Seeks s k from n (codePadded k a b) lo (lo + (hi - lo) / 2)
       seek-down z = turn-down (orderAt s k from (codePadded k a b)) (foundAt k from) Absent (halve (orderAt s k from (codePadded k a b)) (foundAt k from) Absent n 0 n) lo hi inv h o probed z
 
-    module _ (j : Sections) (ef : from ≡ sectionStart j k) (en : n ≡ countIn s j k) (g : k ≤ 8) (f : fits k a b ≡ true) where
-      sought : halve (orderAt s k from (codePadded k a b)) (foundAt k from) Absent n 0 n ≡ foundIn s j k a b
-      unfolding foundIn
-      sought = rw (le-leb k 8 g, f, ef, en, code-text k a b f)
+    module _ (j : Sections) (ef : from ≡ sectionStart j k) (en : n ≡ countIn s j k) (f : fits k a b ≡ true) where
+      sought : halve (orderAt s k from (codePadded k a b)) (foundAt k from) Absent n 0 n ≡ halvedIn s j k (codeText k a b)
+      unfolding halvedIn
+      sought = rw (ef, en, code-text k a b f)
 
-      pub seek-end : hi ≤ lo → Absent ≡ foundIn s j k a b
+      pub seek-end : hi ≤ lo → Absent ≡ halvedIn s j k (codeText k a b)
       seek-end h = halves-end (orderAt s k from (codePadded k a b)) (foundAt k from) Absent (halve (orderAt s k from (codePadded k a b)) (foundAt k from) Absent n 0 n) lo hi inv h ∙ sought
 
-      pub seek-hit : (h : lo < hi) (o : Order) (at w p q : ℕ) → o ≡ codeOrder s (from + (lo + (hi - lo) / 2) * w + 1) p q a b → at ≡ from + (lo + (hi - lo) / 2) * w → w ≡ bodyWidth k + 1 → p ≡ firstWidth k → q ≡ secondWidth k → o ≡ Same → At (record { at = at }) ≡ foundIn s j k a b
+      pub seek-hit : (h : lo < hi) (o : Order) (at w p q : ℕ) → o ≡ codeOrder s (from + (lo + (hi - lo) / 2) * w + 1) p q a b → at ≡ from + (lo + (hi - lo) / 2) * w → w ≡ bodyWidth k + 1 → p ≡ firstWidth k → q ≡ secondWidth k → o ≡ Same → At (record { at = at }) ≡ halvedIn s j k (codeText k a b)
       unfolding foundAt placeOf
       seek-hit h o at w p q e v ew ep eq z =
           let r : at ≡ from + (lo + (hi - lo) / 2) * (bodyWidth k + 1) = v ∙ ap (λ (y : ℕ). from + (lo + (hi - lo) / 2) * y) ew in
@@ -195,6 +230,18 @@ module _ (s : Text) (k from n : ℕ) where
           ∙ sought
 
 pub ruleset for-seek = (needs, seek-start, seek-bound, seek-up, seek-down, seek-end, seek-hit)
+
+-- sought
+module _ (s : Text) (q : Sections) (k : ℕ) (a b : Text) (g : Found) (e : g ≡ guessedIn s q k (codeText k a b)) where
+  pub sought-guess : (p : Position) → g ≡ At p → At p ≡ soughtIn s q k (codeText k a b)
+  unfolding soughtIn
+  sought-guess p h = rw (← e, h)
+
+  pub sought-halves : g ≡ Absent → (r : Found) → r ≡ halvedIn s q k (codeText k a b) → r ≡ soughtIn s q k (codeText k a b)
+  unfolding soughtIn
+  sought-halves h r f = rw (← e, h) f
+
+pub ruleset for-sought = (needs, sought-guess, sought-halves)
 
 -- find
 module _ (s : Text) (q : Sections) (k : ℕ) (a b : Text) where
@@ -206,8 +253,12 @@ module _ (s : Text) (q : Sections) (k : ℕ) (a b : Text) where
     pub find-fits : r ≡ true → fits k a b ≡ true
     find-fits h = sym e ∙ h
 
+    pub find-is : (x : Found) → r ≡ true → x ≡ soughtIn s q k (codeText k a b) → x ≡ foundIn s q k a b
+    unfolding foundIn
+    find-is x h f = rw (le-leb k 8 g, ← e, h) f
+
     pub find-long : r ≡ false → Absent ≡ foundIn s q k a b
     unfolding foundIn
     find-long h = rw (le-leb k 8 g, ← e, h)
 
-pub ruleset for-find = (needs, find-kind, find-fits, find-long)
+pub ruleset for-find = (needs, find-kind, find-fits, find-is, find-long)

@@ -1,13 +1,14 @@
--- Look-up in any bytes, by any sections: halving among the entries of one kind, which all have the same width. For a valid book with its own
--- sections it says what the entries say (proofs/StandingLaws).
+-- Look-up in any bytes, by any sections: the entry that a guess names is asked first, then halving goes on among the entries of one kind, which all
+-- have the same width. For bytes that start with a valid book, by its own sections, it says what the entries say, whatever the guesses
+-- (proofs/StandingLaws).
 -- Assumes nothing.
-use Prim.Native.Nat.{ℕ, _+_, _-_, _*_, _/_}
+use Prim.Native.Nat.{ℕ, zero, suc, _+_, _-_, _*_, _/_, _%_}
 use mathlib.Core.Bool.{Bool, false, cond, _&&_}
-use mathlib.Core.List.{[], _∷_}
-use lib.ListN.{length, take, drop}
-use lib.Dec.{eqb, leb}
+use mathlib.Core.List.{[], _∷_, _++_}
+use lib.ListN.{length, take, drop, getD, set}
+use lib.Dec.{eqb, ltb, leb}
 use Rattle.house.specs.Text.{Text, orderOf}
-use Rattle.house.specs.Search.{halve}
+use Rattle.house.specs.Search.{byOrder, halve}
 use Rattle.house.specs.declared.Order.{Order}
 use Rattle.book.specs.declared.Sections.{Sections}
 use Rattle.book.specs.declared.Found.{Found}
@@ -49,11 +50,35 @@ foundAt k from i = At (record { at = placeOf k from i })
 unfoldable pub fits : ℕ → Text → Text → Bool
 fits k a b = leb (length a) (firstWidth k) && leb (length b) (secondWidth k)
 
+-- the number that a code is mixed to, by its bytes other than blanks: the same with and without its padding
+unfoldable pub mix : ℕ → Text → ℕ
+mix h [] = h
+mix h (b ∷ t) = cond (eqb b 32) (mix h t) (mix ((h * 31 + b) % 32768) t)
+
+-- which entry of a kind the table behind the last section names for a code: two bytes, the lower first
+unfoldable pub guess : Text → Sections → ℕ → Text → ℕ
+guess s q k code = getD (drop (q .end) s) (mix k code * 2) 0 + getD (drop (q .end) s) (mix k code * 2 + 1) 0 * 256
+
+-- where that entry is, if it has the code
+unfoldable pub guessedIn : Text → Sections → ℕ → Text → Found
+guessedIn s q k code =
+    cond (ltb (guess s q k code) (countIn s q k))
+    (byOrder (orderAt s k (sectionStart q k) code (guess s q k code)) Absent (foundAt k (sectionStart q k) (guess s q k code)) Absent) Absent
+
+-- where an entry with the code is, by halving
+unfoldable pub halvedIn : Text → Sections → ℕ → Text → Found
+halvedIn s q k code = halve (orderAt s k (sectionStart q k) code) (foundAt k (sectionStart q k)) Absent (countIn s q k) 0 (countIn s q k)
+
+abbrev pub elseFound : Found → Found → Found
+elseFound (At p) f = At p
+elseFound Absent f = f
+
+unfoldable pub soughtIn : Text → Sections → ℕ → Text → Found
+soughtIn s q k code = elseFound (guessedIn s q k code) (halvedIn s q k code)
+
 -- where the entry is that has this kind and code, of one text or of two
 unfoldable pub foundIn : Text → Sections → ℕ → Text → Text → Found
-foundIn s q k a b =
-    cond (leb k 8 && fits k a b)
-    (halve (orderAt s k (sectionStart q k) (codeText k a b)) (foundAt k (sectionStart q k)) Absent (countIn s q k) 0 (countIn s q k)) Absent
+foundIn s q k a b = cond (leb k 8 && fits k a b) (soughtIn s q k (codeText k a b)) Absent
 
 -- a whole entry of a known kind starts these bytes, its start and end have their form, and it is in force on day d
 unfoldable pub inForceAt : ℕ → Text → Bool
@@ -67,3 +92,25 @@ standingAt s d (At p) = cond (inForceAt d (drop (p .at) s)) InForce OutOfForce
 -- what the book says of a code on a day
 unfoldable pub standingIn : Text → Sections → ℕ → Text → Text → ℕ → Standing
 standingIn s q k a b d = standingAt s d (foundIn s q k a b)
+
+-- A table of guesses
+
+-- entry i of those of kind k that start at `from`, noted in a table
+unfoldable pub noteRow : Text → ℕ → ℕ → ℕ → Text → Text
+noteRow s k from i t =
+    let at = mix k (take (codeWidth k) (drop (placeOf k from i + 1) s)) * 2 in
+    set (set t at (i % 256)) (at + 1) (i / 256 % 256)
+
+-- the first n of them
+unfoldable pub noteRows : Text → ℕ → ℕ → ℕ → Text → Text
+noteRows s k from zero t = t
+noteRows s k from (suc n) t = noteRow s k from n (noteRows s k from n t)
+
+-- the entries of the first kinds
+unfoldable pub noteKinds : Text → Sections → ℕ → Text → Text
+noteKinds s q zero t = t
+noteKinds s q (suc k) t = noteRows s (suc k) (sectionStart q (suc k)) (countIn s q (suc k)) (noteKinds s q k t)
+
+-- a book at the front of a room, and its entries noted behind it; the room as it is where it is too small for the book
+unfoldable pub guided : Text → Sections → Text → Text
+guided s q room = cond (leb (length s) (length room)) (s ++ noteKinds s q 8 (drop (length s) room)) room

@@ -1,7 +1,8 @@
-// Look-up: a binary search among the entries of one kind, which all have the same width.
+// Look-up: the entry that a guess names is asked first, then a binary search goes on among the entries of one kind, which all have the same width.
 use crate::Found;
 use crate::Position;
 use crate::Sections;
+use crate::guess::guess;
 use crate::widths::body_width;
 use crate::widths::first_width;
 use crate::widths::second_width;
@@ -11,12 +12,13 @@ ghost use mathlib.Core.Bool.{true};
 ghost use Prim.Native.Nat.{_<_, _≤_, _+_, _-_, _*_};
 ghost use lib.ListN.{length};
 ghost use Rattle.book.specs.Book.{firstWidth, secondWidth, bodyWidth};
-ghost use Rattle.book.specs.LookUp.{sectionStart, countIn, fits, foundIn};
-ghost use Rattle.book.specs.Inside.{codeOrder};
+ghost use Rattle.book.specs.Book.{codeText};
+ghost use Rattle.book.specs.LookUp.{sectionStart, countIn, fits, guessedIn, halvedIn, soughtIn, foundIn};
+ghost use Rattle.book.specs.Inside.{codeOrder, foundIf};
 
 impl Sections {
     // Where the entries of kind k start, and those of the kind before it end.
-    fn start(self, k: u8) -> usize
+    pub(crate) fn start(self, k: u8) -> usize
         ensures { λ r. ⌜ r ≡ sectionStart self k ⌝ }
     {
         match k {
@@ -47,14 +49,14 @@ fn codes_fit(k: u8, a: &[u8], b: &[u8]) -> bool
 }
 
 // What the entries of a kind have in common: the bytes of each, of its code or the first of two, and of the second.
-struct Widths {
-    entry: usize,
-    first: usize,
-    second: usize,
+pub(crate) struct Widths {
+    pub(crate) entry: usize,
+    pub(crate) first: usize,
+    pub(crate) second: usize,
 }
 
 // The widths of a kind.
-fn widths_of(k: u8) -> Widths
+pub(crate) fn widths_of(k: u8) -> Widths
     ensures { λ r. ⌜ r .entry ≡ bodyWidth k + 1 ⌝ }
     ensures { λ r. ⌜ r .first ≡ firstWidth k ⌝ }
     ensures { λ r. ⌜ r .second ≡ secondWidth k ⌝ }
@@ -83,7 +85,7 @@ fn code_order(book: &[u8], at: usize, p: usize, q: usize, a: &[u8], b: &[u8]) ->
 }
 
 // How many whole entries of a kind lie in its section, and in the book; each has w bytes.
-fn section_count(book: &[u8], sections: Sections, k: u8, w: usize) -> usize
+pub(crate) fn section_count(book: &[u8], sections: Sections, k: u8, w: usize) -> usize
     requires { ⌜ k ≤ 8 ⌝ }
     requires { ⌜ w ≡ bodyWidth k + 1 ⌝ }
     ensures { λ r. ⌜ r ≡ countIn (now (book .entry)) sections k ⌝ }
@@ -121,11 +123,43 @@ fn probe(book: &[u8], from: usize, n: usize, i: usize, w: Widths, a: &[u8], b: &
     }
 }
 
-// The search itself: entries lo to hi are left of those of the section.
+// An entry that was read, if it has the code.
+fn found_if(p: Probed) -> Found
+    ensures { λ r. ⌜ r ≡ foundIf (p .order) (p .at) ⌝ }
+{
+    let o = p.order;
+    match o {
+        Order::Less => Found::Absent,
+        Order::More => Found::Absent,
+        Order::Same => {
+            let at = p.at;
+            Found::At(Position { at })
+        }
+    }
+}
+
+// The entry that the guess for a code names, if it has that code.
+fn guessed(book: &[u8], sections: Sections, kind: u8, a: &[u8], b: &[u8]) -> Found
+    requires { ⌜ kind ≤ 8 ⌝ }
+    requires { ⌜ fits kind (now a) (now b) ≡ true ⌝ }
+    ensures { λ r. ⌜ r ≡ guessedIn (now (book .entry)) sections kind (codeText kind (now (a .entry)) (now (b .entry))) ⌝ }
+{
+    let from = sections.start(kind);
+    let w = widths_of(kind);
+    let n = section_count(book, sections, kind, w.entry);
+    let i = guess(book, sections, kind, a, b);
+    if i < n {
+        found_if(probe(book, from, n, i, w, a, b))
+    } else {
+        Found::Absent
+    }
+}
+
+// The search by halves: entries lo to hi are left of those of the section.
 fn seek(book: &[u8], sections: Sections, kind: u8, a: &[u8], b: &[u8]) -> Found
     requires { ⌜ kind ≤ 8 ⌝ }
     requires { ⌜ fits kind (now a) (now b) ≡ true ⌝ }
-    ensures { λ r. ⌜ r ≡ foundIn (now (book .entry)) sections kind (now (a .entry)) (now (b .entry)) ⌝ }
+    ensures { λ r. ⌜ r ≡ halvedIn (now (book .entry)) sections kind (codeText kind (now (a .entry)) (now (b .entry))) ⌝ }
 {
     let from = sections.start(kind);
     let w = widths_of(kind);
@@ -152,6 +186,19 @@ fn seek(book: &[u8], sections: Sections, kind: u8, a: &[u8], b: &[u8]) -> Found
     Found::Absent
 }
 
+// The entry of a kind with a code, by guess or by halves.
+fn sought(book: &[u8], sections: Sections, kind: u8, a: &[u8], b: &[u8]) -> Found
+    requires { ⌜ kind ≤ 8 ⌝ }
+    requires { ⌜ fits kind (now a) (now b) ≡ true ⌝ }
+    ensures { λ r. ⌜ r ≡ soughtIn (now (book .entry)) sections kind (codeText kind (now (a .entry)) (now (b .entry))) ⌝ }
+{
+    let g = guessed(book, sections, kind, a, b);
+    match g {
+        Found::At(place) => Found::At(place),
+        Found::Absent => seek(book, sections, kind, a, b),
+    }
+}
+
 // Finds the entry of a kind with a code, given as one text or, for a pair, as two, not padded. A text longer than its code's width is absent.
 pub fn find(book: &[u8], sections: Sections, kind: u8, a: &[u8], b: &[u8]) -> Found
     ensures { λ r. ⌜ r ≡ foundIn (now (book .entry)) sections kind (now (a .entry)) (now (b .entry)) ⌝ }
@@ -160,7 +207,7 @@ pub fn find(book: &[u8], sections: Sections, kind: u8, a: &[u8], b: &[u8]) -> Fo
         return Found::Absent;
     }
     if codes_fit(kind, a, b) {
-        seek(book, sections, kind, a, b)
+        sought(book, sections, kind, a, b)
     } else {
         Found::Absent
     }

@@ -10,7 +10,6 @@ use lib.Dec.{eqb, leb}
 use lib.ListN.{length, take, drop, length-drop, take-append-drop}
 use lib.Seq.{length-take-le}
 use Rattle.house.specs.Text.{Text, same}
-use Rattle.house.specs.Search.{halve}
 use Rattle.house.proofs.Small.{both}
 use Rattle.house.proofs.Decisions.{not-same}
 use Rattle.book.specs.declared.Sections.{Sections}
@@ -19,7 +18,7 @@ use Rattle.book.specs.declared.Found.the-variants.{At, Absent}
 use Rattle.book.specs.declared.Standing.{Standing}
 use Rattle.book.specs.declared.Standing.the-variants.{Unknown, OutOfForce, InForce}
 use Rattle.book.specs.Book.{firstWidth, secondWidth, codeWidth, Entry, entries, codeOf, entryForm, bookOf, Sound, filled, codeText, isEntry, listed, listedOn, inForce}
-use Rattle.book.specs.LookUp.{sectionStart, countIn, orderAt, foundAt, standingAt, foundIn as foundWith, standingIn}
+use Rattle.book.specs.LookUp.{soughtIn, standingAt, foundIn as foundWith, standingIn}
 use Rattle.book.specs.Inside.{soundFrom}
 use Rattle.book.proofs.WidthLaws.{code-parts, body-parts}
 use Rattle.book.proofs.EntryLaws.{form-says}
@@ -63,28 +62,28 @@ says-in-force Unknown = refl
 says-in-force OutOfForce = refl
 says-in-force InForce = refl
 
-module _ (s : Text) (q : Sections) (h : Sound s q) (k : ℕ) (code : Text) where
+module _ (s : Text) (q : Sections) (h : Sound (take (q .end) s) q) (k : ℕ) (code : Text) where
   -- of the right width
   module _ (w : length code ≡ codeWidth k) where
     found-two : foundBy s q k code ≡ foundWith s q k (first k code w) (second k code w)
     found-two = ap (foundBy s q k) (sym (in-two k code w)) ∙ sym (found-is s q k (first k code w) (second k code w))
 
-    known-wide : knownBy s q k code ≡ listed (bookOf s) k code
+    known-wide : knownBy s q k code ≡ listed (bookOf (take (q .end) s)) k code
     unfolding knownBy
     known-wide =
-        ap isThere found-two ∙ go (foundWith s q k (first k code w) (second k code w)) refl ∙ ap (listed (bookOf s) k) (in-two k code w)
+        ap isThere found-two ∙ go (foundWith s q k (first k code w) (second k code w)) refl ∙ ap (listed (bookOf (take (q .end) s)) k) (in-two k code w)
       where
-        go : (f : Found) → f ≡ foundWith s q k (first k code w) (second k code w) → isThere f ≡ listed (bookOf s) k (codeText k (first k code w) (second k code w))
+        go : (f : Found) → f ≡ foundWith s q k (first k code w) (second k code w) → isThere f ≡ listed (bookOf (take (q .end) s)) k (codeText k (first k code w) (second k code w))
         go Absent e = sym (absent-known s q h k (first k code w) (second k code w) Absent e refl)
         go (At p) e = sym (found-known s q h k (first k code w) (second k code w) (At p) e p refl)
 
-    force-wide : (d : ℕ) → forceBy s q d k code ≡ listedOn (bookOf s) d k code
+    force-wide : (d : ℕ) → forceBy s q d k code ≡ listedOn (bookOf (take (q .end) s)) d k code
     unfolding forceBy standingIn
     force-wide d =
         ap (λ (f : Found). isInForceIn (standingAt s d f)) found-two
         ∙ says-in-force (standingIn s q k (first k code w) (second k code w) d)
         ∙ sym (look-in-force s q h k (first k code w) (second k code w) d (standingIn s q k (first k code w) (second k code w) d) refl)
-        ∙ ap (listedOn (bookOf s) d k) (in-two k code w)
+        ∙ ap (listedOn (bookOf (take (q .end) s)) d k) (in-two k code w)
 
   -- of another width: no entry has it
   module _ (n : length code ≡ codeWidth k → ⊥) where
@@ -100,48 +99,48 @@ module _ (s : Text) (q : Sections) (h : Sound s q) (k : ℕ) (code : Text) where
     unfolding foundBy
     nowhere = rw (ne-eqb (length code) (codeWidth k) n) (go (leb k 8))
       where
-        go : (b : Bool) → cond (b && false) (halve (orderAt s k (sectionStart q k) code) (foundAt k (sectionStart q k)) Absent (countIn s q k) 0 (countIn s q k)) Absent ≡ Absent
+        go : (b : Bool) → cond (b && false) (soughtIn s q k code) Absent ≡ Absent
         go true = refl
         go false = refl
 
-    sound : soundFrom 1 [] (entries s) ≡ true
-    sound = both (leb (length s) 262144) (soundFrom 1 [] (entries s)) (sym (book-is s) ∙ h .ok) .1
+    sound : soundFrom 1 [] (entries (take (q .end) s)) ≡ true
+    sound = both (leb (length (take (q .end) s)) 262144) (soundFrom 1 [] (entries (take (q .end) s))) (sym (book-is (take (q .end) s)) ∙ h .ok) .1
 
-    known-other : knownBy s q k code ≡ listed (bookOf s) k code
+    known-other : knownBy s q k code ≡ listed (bookOf (take (q .end) s)) k code
     unfolding knownBy listed bookOf
-    known-other = ap isThere nowhere ∙ sym (none-sound (isEntry k code) 1 [] (entries s) sound (λ e l f. not-entry e f))
+    known-other = ap isThere nowhere ∙ sym (none-sound (isEntry k code) 1 [] (entries (take (q .end) s)) sound (λ e l f. not-entry e f))
 
-    force-other : (d : ℕ) → forceBy s q d k code ≡ listedOn (bookOf s) d k code
+    force-other : (d : ℕ) → forceBy s q d k code ≡ listedOn (bookOf (take (q .end) s)) d k code
     unfolding forceBy listedOn bookOf
     force-other d =
         ap (λ (f : Found). isInForceIn (standingAt s d f)) nowhere
-        ∙ sym (none-sound (λ (e : Entry). isEntry k code e && inForce d e) 1 [] (entries s) sound (λ e l f. rw (not-entry e f)))
+        ∙ sym (none-sound (λ (e : Entry). isEntry k code e && inForce d e) 1 [] (entries (take (q .end) s)) sound (λ e l f. rw (not-entry e f)))
 
   -- the code is known exactly if the book lists it
-  pub known-is : knownBy s q k code ≡ listed (bookOf s) k code
+  pub known-is : knownBy s q k code ≡ listed (bookOf (take (q .end) s)) k code
   known-is = go (eqb (length code) (codeWidth k)) refl
     where
-      go : (b : Bool) → eqb (length code) (codeWidth k) ≡ b → knownBy s q k code ≡ listed (bookOf s) k code
+      go : (b : Bool) → eqb (length code) (codeWidth k) ≡ b → knownBy s q k code ≡ listed (bookOf (take (q .end) s)) k code
       go true z = known-wide (eqb-true (length code) (codeWidth k) z)
       go false z = known-other (eqb-false (length code) (codeWidth k) z)
 
   -- and in force on a day exactly if the book lists it so
-  pub force-is : (d : ℕ) → forceBy s q d k code ≡ listedOn (bookOf s) d k code
+  pub force-is : (d : ℕ) → forceBy s q d k code ≡ listedOn (bookOf (take (q .end) s)) d k code
   force-is d = go (eqb (length code) (codeWidth k)) refl
     where
-      go : (b : Bool) → eqb (length code) (codeWidth k) ≡ b → forceBy s q d k code ≡ listedOn (bookOf s) d k code
+      go : (b : Bool) → eqb (length code) (codeWidth k) ≡ b → forceBy s q d k code ≡ listedOn (bookOf (take (q .end) s)) d k code
       go true z = force-wide (eqb-true (length code) (codeWidth k) z) d
       go false z = force-other (eqb-false (length code) (codeWidth k) z) d
 
--- what a file is judged by, of a book with its sections and a ledger with n live events
-pub setting-is : (today : ℕ) (s : Text) (q : Sections) (ledger : Text) (n : ℕ) → Sound s q → ledgerOk ledger ≡ true → n ≡ length (liveIn ledger)
+-- what a file is judged by, of bytes that start with a book with these sections and a ledger with n live events
+pub setting-is : (today : ℕ) (s : Text) (q : Sections) (ledger : Text) (n : ℕ) → Sound (take (q .end) s) q → ledgerOk ledger ≡ true → n ≡ length (liveIn ledger)
     → settingBy today s q (foundIn ledger n)
-    ≡ record { profile = 0; today = today; known = listed (bookOf s); in-force = listedOn (bookOf s); live = isAmong (liveIn ledger) }
+    ≡ record { profile = 0; today = today; known = listed (bookOf (take (q .end) s)); in-force = listedOn (bookOf (take (q .end) s)); live = isAmong (liveIn ledger) }
 unfolding settingBy
 setting-is today s q ledger n h ok e =
-    let known : knownBy s q ≡ listed (bookOf s) = fun-ext (λ k. fun-ext (λ code. known-is s q h k code)) in
-    let force : forceBy s q ≡ listedOn (bookOf s) = fun-ext (λ d. fun-ext (λ k. fun-ext (λ code. force-is s q h k code d))) in
+    let known : knownBy s q ≡ listed (bookOf (take (q .end) s)) = fun-ext (λ k. fun-ext (λ code. known-is s q h k code)) in
+    let force : forceBy s q ≡ listedOn (bookOf (take (q .end) s)) = fun-ext (λ d. fun-ext (λ k. fun-ext (λ code. force-is s q h k code d))) in
     let live : foundIn ledger n ≡ isAmong (liveIn ledger) = fun-ext (λ x. found-live ledger ok n x e) in
     ap (λ (g : ℕ → Text → Bool). record { profile = 0; today = today; known = g; in-force = forceBy s q; live = foundIn ledger n }) known
-    ∙ ap (λ (g : ℕ → ℕ → Text → Bool). record { profile = 0; today = today; known = listed (bookOf s); in-force = g; live = foundIn ledger n }) force
-    ∙ ap (λ (g : Event → Bool). record { profile = 0; today = today; known = listed (bookOf s); in-force = listedOn (bookOf s); live = g }) live
+    ∙ ap (λ (g : ℕ → ℕ → Text → Bool). record { profile = 0; today = today; known = listed (bookOf (take (q .end) s)); in-force = g; live = foundIn ledger n }) force
+    ∙ ap (λ (g : Event → Bool). record { profile = 0; today = today; known = listed (bookOf (take (q .end) s)); in-force = listedOn (bookOf (take (q .end) s)); live = g }) live

@@ -1,24 +1,21 @@
--- What the book says of a code, as look-ups by halving in a book of any bytes and sections say it.
+-- What the book says of a code, as look-ups in a book of any bytes and sections say it.
 -- Assumes nothing.
 use Prim.Native.Nat.{ℕ}
 use mathlib.Core.Bool.{Bool, true, false, cond, _&&_}
 use lib.ListN.{length}
 use lib.Dec.{eqb, leb}
 use Rattle.house.specs.Text.{Text}
-use Rattle.house.specs.Search.{halve}
 use Rattle.book.specs.declared.Sections.{Sections}
 use Rattle.book.specs.declared.Found.{Found}
 use Rattle.book.specs.declared.Found.the-variants.{At, Absent}
 use Rattle.book.specs.declared.Standing.{Standing}
 use Rattle.book.specs.declared.Standing.the-variants.{Unknown, OutOfForce, InForce}
 use Rattle.book.specs.Book.{codeWidth}
-use Rattle.book.specs.LookUp.{sectionStart, countIn, orderAt, foundAt, standingAt}
+use Rattle.book.specs.LookUp.{soughtIn, standingAt}
 
 -- where the entry is that has this kind and this code as the book writes it
 unfoldable pub foundBy : Text → Sections → ℕ → Text → Found
-foundBy s q k code =
-    cond (leb k 8 && eqb (length code) (codeWidth k))
-    (halve (orderAt s k (sectionStart q k) code) (foundAt k (sectionStart q k)) Absent (countIn s q k) 0 (countIn s q k)) Absent
+foundBy s q k code = cond (leb k 8 && eqb (length code) (codeWidth k)) (soughtIn s q k code) Absent
 
 abbrev pub isThere : Found → Bool
 isThere Absent = false
