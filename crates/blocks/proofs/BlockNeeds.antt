@@ -1,7 +1,7 @@
--- What each need of the functions on blocks asks.
+-- What each need of `same_first`, `same_dated`, `same_typed`, `is_dated_code`, `is_typed_code` and `in_block` asks.
 -- Assumes nothing.
 use mathlib.Core.Path.{_≡_, sym, _∙_}
-use mathlib.Core.Bool.{Bool, true, false, and-false}
+use mathlib.Core.Bool.{Bool, true, false}
 use Prim.Native.Nat.{ℕ, suc, _+_}
 use borrow.Author.Needs.{needs}
 use borrow.Author.Tests.{eq-eqb, ne-eqb}
@@ -11,7 +11,7 @@ use Rattle.dates.specs.Dates.{isDate}
 use Rattle.lines.specs.Lines.{fieldOf, fieldsLen}
 use Rattle.lines.specs.Records.{recordOf, recOf}
 use Rattle.rules.specs.Forms.{isUli, isType, isCode}
-use Rattle.rules.specs.Blocks.{isInBlock, sameEvent, joins}
+use Rattle.rules.specs.Blocks.{isInBlock}
 use Rattle.blocks.specs.From.{datedFrom, typedFrom, sameDated, sameTyped}
 use Rattle.forms.proofs.FieldLaws.{text-is, kind-is}
 use Rattle.forms.proofs.FieldLaws.{field-behind}
@@ -60,22 +60,6 @@ module _ (l third fourth : Text) (c : third ≡ drop (fieldsLen 2 l) l) (d : fou
 
   is-8 : fieldOf l 8 ≡ fieldOf fourth 5
   is-8 = from-fourth 4
-
--- joins
-module _ (a b p q : Text) (c : p ≡ drop (fieldsLen 2 a) a) (d : q ≡ drop (fieldsLen 2 b) b) (x : Bool) (e : x ≡ same (fieldOf p 1) (fieldOf q 1)) where
-  same-3 : same (fieldOf a 3) (fieldOf b 3) ≡ x
-  same-3 = rw (← field-behind a p 2 0 c, ← field-behind b q 2 0 d) (sym e)
-
-  pub join-other : x ≡ false → false ≡ joins (recOf a) (recOf b)
-  unfolding joins sameEvent
-  join-other h = simp (text-is, same-3, h) (sym (and-false (same (fieldOf a 4) (fieldOf b 4))))
-
-  pub join-same : (v w : Text) (y : Bool) → x ≡ true → v ≡ drop (fieldsLen 1 p) p → w ≡ drop (fieldsLen 1 q) q → y ≡ sameTyped v w → y ≡ joins (recOf a) (recOf b)
-  unfolding joins sameEvent sameTyped
-  join-same v w y h f g k =
-      simp (text-is, same-3, h, is-4 a p v c f, is-6 a p v c f, is-8 a p v c f, is-4 b q w d g, is-6 b q w d g, is-8 b q w d g) k
-
-pub ruleset for-joins = (needs, join-other, join-same)
 
 -- is_dated_code, is_typed_code: s goes on at r
 module _ (s t : Text) (d : t ≡ fieldOf s 1) (x : Bool) where

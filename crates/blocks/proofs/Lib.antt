@@ -1,6 +1,7 @@
 -- The laws of the crate, for the crates above and for its own proofs.
 -- Assumes nothing.
 -- What the functions' own needs ask
+mod AlikeNeeds
 mod BlockNeeds
 -- No second answer
 mod OneAnswer

@@ -1,8 +1,12 @@
 -- What the functions on blocks ask of an II from a field on, which is the first of the text.
 -- Assumes nothing.
-use mathlib.Core.Bool.{Bool, _&&_}
+use Prim.Native.Nat.{ℕ, _-_}
+use mathlib.Core.Path.{_≡_}
+use mathlib.Core.Bool.{Bool, _&&_, _||_}
+use lib.Dec.{leb}
+use lib.ListN.{take}
 use Rattle.house.specs.Text.{Text, same}
-use Rattle.lines.specs.Lines.{fieldOf}
+use Rattle.lines.specs.Lines.{fieldsOf, fieldOf, fieldsLen}
 use Rattle.dates.specs.Dates.{isDate}
 use Rattle.rules.specs.Forms.{isType, isCode}
 
@@ -21,3 +25,18 @@ sameDated t u = same (fieldOf t 1) (fieldOf u 1) && same (fieldOf t 3) (fieldOf 
 -- from field 4 on: one type too
 unfoldable pub sameTyped : Text → Text → Bool
 sameTyped t u = same (fieldOf t 1) (fieldOf u 1) && (same (fieldOf t 3) (fieldOf u 3) && same (fieldOf t 5) (fieldOf u 5))
+
+-- two of them from behind n fields on, counted from field 3, that are alike: their field f, counted so, is the same. It is one of those, or the
+-- texts have it in common
+unfoldable pub sameBehind : ℕ → ℕ → Text → Text → Bool
+sameBehind n f t u = leb f n || same (fieldOf t (f - n)) (fieldOf u (f - n))
+
+-- they have one ULI, one type, one date and one vaccine
+unfoldable pub sameFrom : ℕ → Text → Text → Bool
+sameFrom n t u = sameBehind n 1 t u && (sameBehind n 2 t u && (sameBehind n 4 t u && sameBehind n 6 t u))
+
+-- the first n fields of two texts are the same, and in both the next one starts at the same position
+pub record InCommon (t u : Text) (n at : ℕ) : Type 0 where
+  pub alike : take n (fieldsOf t) ≡ take n (fieldsOf u)
+  pub here : at ≡ fieldsLen n t
+  pub there : at ≡ fieldsLen n u

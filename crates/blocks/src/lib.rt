@@ -11,7 +11,7 @@ ghost use Rattle.house.specs.Text.{same};
 ghost use Rattle.lines.specs.Lines.{fieldOf};
 ghost use Rattle.lines.specs.Records.{recOf};
 ghost use Rattle.rules.specs.Blocks.{isInBlock, joins};
-ghost use Rattle.blocks.specs.From.{datedFrom, typedFrom, sameDated, sameTyped};
+ghost use Rattle.blocks.specs.From.{datedFrom, typedFrom, sameDated, sameTyped, sameFrom, InCommon};
 
 // Whether the first fields of two texts are the same.
 fn same_first(a: &[u8], b: &[u8]) -> bool
@@ -42,17 +42,70 @@ fn same_typed(a: &[u8], b: &[u8]) -> bool
     }
 }
 
-// Whether two lines are of one event and one type.
+// What two texts have in common at their start, byte for byte: so many fields, of the first six, and where the next one starts in both.
+struct Common {
+    fields: usize,
+    at: usize,
+}
+
+// The fields at their start in which two texts are alike.
+fn alike(a: &[u8], b: &[u8]) -> Common
+    ensures { λ r. ⌜ InCommon (now (a .entry)) (now (b .entry)) (r .fields) (r .at) ⌝ }
+{
+    let mut fields: usize = 0;
+    let mut at = 0;
+    let mut i = 0;
+    while i < a.len() {
+        if b.len() <= i {
+            return Common { fields, at };
+        }
+        if a[i] != b[i] {
+            return Common { fields, at };
+        }
+        if a[i] == b'|' {
+            i += 1;
+            fields += 1;
+            at = i;
+            if fields == 6 {
+                return Common { fields, at };
+            }
+            continue;
+        }
+        i += 1;
+    }
+    Common { fields, at }
+}
+
+// Whether two IIs are of one event and one type, each from behind so many fields on, counted from field 3, in which they are alike.
+fn same_from(fields: usize, a: &[u8], b: &[u8]) -> bool
+    ensures { λ r. ⌜ r ≡ sameFrom fields (now (a .entry)) (now (b .entry)) ⌝ }
+{
+    match fields {
+        0 => {
+            if same_first(a, b) {
+                same_typed(behind(a, 1), behind(b, 1))
+            } else {
+                false
+            }
+        }
+        1 => same_typed(a, b),
+        2 => same_dated(behind(a, 1), behind(b, 1)),
+        3 => same_dated(a, b),
+        4 => same_first(behind(a, 1), behind(b, 1)),
+        5 => same_first(a, b),
+        _ => true,
+    }
+}
+
+// Whether two lines are of one event and one type. Most that are asked of begin with the same fields, which are passed over in both at once.
 pub fn joins(a: &[u8], b: &[u8]) -> bool
     ensures { λ r. ⌜ r ≡ joins (recOf (now (a .entry))) (recOf (now (b .entry))) ⌝ }
 {
     let p = behind(a, 2);
     let q = behind(b, 2);
-    if same_first(p, q) {
-        same_typed(behind(p, 1), behind(q, 1))
-    } else {
-        false
-    }
+    let l = alike(p, q);
+    let at = l.at;
+    same_from(l.fields, &p[at..], &q[at..])
 }
 
 // Whether fields 6 and 8 of an II are sound, from its field 6 on.

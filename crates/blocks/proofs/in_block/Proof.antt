@@ -1,3 +1,5 @@
+-- `blocks::in_block` meets its contract.
+-- Assumes nothing.
 use Rattle.blocks.proofs.BlockNeeds.{for-in-block}
 use Rattle.blocks.proofs.in_block.Statement.{statement}
 use Rattle.blocks.proofs.in_block.Tie as tie

@@ -1,3 +1,5 @@
+-- `blocks::is_dated_code` meets its contract.
+-- Assumes nothing.
 use Rattle.blocks.proofs.BlockNeeds.{for-dated-code}
 use Rattle.blocks.proofs.is_dated_code.Statement.{statement}
 use Rattle.blocks.proofs.is_dated_code.Tie as tie

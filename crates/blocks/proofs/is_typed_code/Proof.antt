@@ -1,3 +1,5 @@
+-- `blocks::is_typed_code` meets its contract.
+-- Assumes nothing.
 use Rattle.blocks.proofs.BlockNeeds.{for-typed-code}
 use Rattle.blocks.proofs.is_typed_code.Statement.{statement}
 use Rattle.blocks.proofs.is_typed_code.Tie as tie

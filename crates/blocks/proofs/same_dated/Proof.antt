@@ -1,3 +1,5 @@
+-- `blocks::same_dated` meets its contract.
+-- Assumes nothing.
 use Rattle.blocks.proofs.BlockNeeds.{for-same-dated}
 use Rattle.blocks.proofs.same_dated.Statement.{statement}
 use Rattle.blocks.proofs.same_dated.Tie as tie

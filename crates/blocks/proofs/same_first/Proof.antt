@@ -1,3 +1,5 @@
+-- `blocks::same_first` meets its contract.
+-- Assumes nothing.
 use Rattle.blocks.proofs.BlockNeeds.{for-same-first}
 use Rattle.blocks.proofs.same_first.Statement.{statement}
 use Rattle.blocks.proofs.same_first.Tie as tie

@@ -1,3 +1,5 @@
+-- `blocks::same_typed` meets its contract.
+-- Assumes nothing.
 use Rattle.blocks.proofs.BlockNeeds.{for-same-typed}
 use Rattle.blocks.proofs.same_typed.Statement.{statement}
 use Rattle.blocks.proofs.same_typed.Tie as tie
