@@ -9,8 +9,8 @@ use native.Mathlib.Omega.{arith}
 use borrow.Author.Needs.{needs}
 use borrow.Author.Tests.{eq-eqb, ne-eqb, le-leb, leb-true, leb-false}
 use lib.Dec.{leb}
-use lib.ListN.{length, take, drop, getD, length-drop}
-use lib.Seq.{getD-take, take-all}
+use lib.ListN.{length, take, drop, getD}
+use lib.Seq.{getD-take}
 use Rattle.house.specs.Text.{Text, same}
 use Rattle.house.proofs.Decisions.{is-same}
 use Rattle.house.proofs.Suffix.{drop-here}
@@ -20,16 +20,12 @@ use Rattle.lines.proofs.FieldLaws.{fields-le}
 use Rattle.rules.specs.Blocks.{sameEvent, joins}
 use Rattle.forms.proofs.FieldLaws.{text-is, field-behind}
 use Rattle.blocks.specs.From.{sameDated, sameTyped, sameBehind, sameFrom, InCommon}
+use Rattle.blocks.proofs.StartLaws.{starts-zero, rest}
 
 -- alike: in a text t the field after n fields starts at a position, and the later ones where the fields from position i on say
 pub record Starts (t : Text) (n at i : ℕ) : Type 0 where
   pub this : at ≡ fieldsLen n t
   pub later : (m : ℕ) → fieldsLen (n + suc m) t ≡ i + fieldsLen (suc m) (drop i t)
-
-starts-zero : (t : Text) → fieldsLen 0 t ≡ 0
-unfolding fieldsLen
-starts-zero [] = refl
-starts-zero (b ∷ t) = refl
 
 starts-first : (t : Text) → Starts t 0 0 0
 starts-first t = record { this = sym (starts-zero t); later = λ m. rw (zero-add, zero-add) }
@@ -191,9 +187,6 @@ module _ (t u : Text) (n at : ℕ) (g : InCommon t u n at) where
 
   pub start-there : at ≤ length u
   start-there = rw (g .there) (fields-le n u)
-
-rest : (t : Text) (at : ℕ) → take (length t - at) (drop at t) ≡ drop at t
-rest t at = take-all (length t - at) (drop at t) (omega (arith, length-drop at t))
 
 swap : (x y z : Bool) → x && (y && z) ≡ y && (x && z)
 swap true y z = refl

@@ -1,21 +1,26 @@
--- What each need of `same_first`, `same_dated`, `same_typed`, `is_dated_code`, `is_typed_code` and `in_block` asks.
+-- What each need of `same_first`, `same_dated`, `same_typed`, `past`, `is_dated_code`, `is_typed_code` and `in_block` asks.
 -- Assumes nothing.
-use mathlib.Core.Path.{_≡_, sym, _∙_}
+use mathlib.Core.Path.{_≡_, sym, ap, _∙_}
 use mathlib.Core.Bool.{Bool, true, false}
-use Prim.Native.Nat.{ℕ, suc, _+_}
+use mathlib.Core.List.{[], _∷_}
+use Prim.Native.Nat.{ℕ, suc, _+_, _-_, _≤_, _<_}
+use native.Mathlib.Omega.{arith}
 use borrow.Author.Needs.{needs}
 use borrow.Author.Tests.{eq-eqb, ne-eqb}
-use lib.ListN.{drop}
-use Rattle.house.specs.Text.{Text, same}
+use lib.ListN.{length, take, drop}
+use Rattle.house.specs.Text.{Text, same, orderOf, run}
+use Rattle.house.proofs.Small.{clash}
 use Rattle.dates.specs.Dates.{isDate}
 use Rattle.lines.specs.Lines.{fieldOf, fieldsLen}
 use Rattle.lines.specs.Records.{recordOf, recOf}
+use Rattle.lines.proofs.FieldLaws.{fields-le}
 use Rattle.rules.specs.Forms.{isUli, isType, isCode}
 use Rattle.rules.specs.Blocks.{isInBlock}
 use Rattle.blocks.specs.From.{datedFrom, typedFrom, sameDated, sameTyped}
 use Rattle.forms.proofs.FieldLaws.{text-is, kind-is}
 use Rattle.forms.proofs.FieldLaws.{field-behind}
 use Rattle.forms.proofs.SoundLaws.{ii-3, ii-4, ii-6, ii-8}
+use Rattle.blocks.proofs.StartLaws.{starts-past, rest}
 
 -- same_first
 pub first-same : (a b t u : Text) (x : Bool) → t ≡ fieldOf a 1 → u ≡ fieldOf b 1 → x ≡ same t u → x ≡ same (fieldOf a 1) (fieldOf b 1)
@@ -61,7 +66,52 @@ module _ (l third fourth : Text) (c : third ≡ drop (fieldsLen 2 l) l) (d : fou
   is-8 : fieldOf l 8 ≡ fieldOf fourth 5
   is-8 = from-fourth 4
 
--- is_dated_code, is_typed_code: s goes on at r
+-- past: the first field of a text has n bytes
+module _ (s : Text) (n : ℕ) (e : n ≡ length (fieldOf s 1)) (h : 1 ≤ n) where
+  past-start : fieldsLen 1 s ≡ n + 1
+  past-start = let k : 1 ≤ length (fieldOf s 1) = rw (← e) h in rw (starts-past s k, ← e) (omega arith)
+
+  pub past-in : n + 1 ≤ length s
+  past-in = rw (← past-start) (fields-le 1 s)
+
+  pub past-fits : length s < 18446744073709551616 → n + 1 < 18446744073709551616
+  past-fits l = omega (arith, past-in)
+
+  pub past-is : take (length s - (n + 1)) (drop (n + 1) s) ≡ drop (fieldsLen 1 s) s
+  past-is = rw (past-start, rest s (n + 1))
+
+pub ruleset for-past = (needs, past-in, past-fits, past-is)
+
+-- a text that is a ULI, a type or a date is not empty
+module _ (t : Text) (x : Bool) (h : x ≡ true) where
+  pub uli-filled : x ≡ isUli t → 1 ≤ length t
+  unfolding isUli run
+  uli-filled e = go t (sym e ∙ h)
+    where
+      go : (u : Text) → isUli u ≡ true → 1 ≤ length u
+      go [] k = clash (cc)
+      go (b ∷ u) k = omega arith
+
+  pub type-filled : x ≡ isType t → 1 ≤ length t
+  unfolding isType same orderOf
+  type-filled e = go t (sym e ∙ h)
+    where
+      go : (u : Text) → isType u ≡ true → 1 ≤ length u
+      go [] k = clash (cc)
+      go (b ∷ u) k = omega arith
+
+  pub date-filled : x ≡ isDate t → 1 ≤ length t
+  unfolding isDate
+  date-filled e = go t (sym e ∙ h)
+    where
+      go : (u : Text) → isDate u ≡ true → 1 ≤ length u
+      go [] k = clash (cc)
+      go (b ∷ u) k = omega arith
+
+pub long-as : (s t : Text) → t ≡ fieldOf s 1 → length t ≡ length (fieldOf s 1)
+long-as s t d = ap length d
+
+-- is_dated_code, is_typed_code: s goes on at r behind its first field, and at q behind one more
 module _ (s t : Text) (d : t ≡ fieldOf s 1) (x : Bool) where
   pub dated-not : x ≡ isDate t → x ≡ false → false ≡ datedFrom s
   unfolding datedFrom
@@ -71,18 +121,21 @@ module _ (s t : Text) (d : t ≡ fieldOf s 1) (x : Bool) where
   unfolding typedFrom
   typed-not e h = rw (← d, ← e, h)
 
-  module _ (h : x ≡ true) (r : Text) (c : r ≡ drop (fieldsLen 2 s) s) (y : Bool) where
-    pub dated-both : (u : Text) → x ≡ isDate t → u ≡ fieldOf r 1 → y ≡ isCode u → y ≡ datedFrom s
+  module _ (h : x ≡ true) (r q : Text) (b : r ≡ drop (fieldsLen 1 s) s) (c : q ≡ drop (fieldsLen 1 r) r) (y : Bool) where
+    behind-two : (j : ℕ) → fieldOf s (suc (1 + (1 + j))) ≡ fieldOf q (suc j)
+    behind-two j = sym (field-behind r q 1 j c ∙ field-behind s r 1 (1 + j) b)
+
+    pub dated-both : (u : Text) → x ≡ isDate t → u ≡ fieldOf q 1 → y ≡ isCode u → y ≡ datedFrom s
     unfolding datedFrom
-    dated-both u e g f = rw (← d, ← e, h, ← field-behind s r 2 0 c, ← g) f
+    dated-both u e g f = rw (← d, ← e, h, behind-two 0, ← g) f
 
-    pub typed-all : x ≡ isType t → y ≡ datedFrom r → y ≡ typedFrom s
+    pub typed-all : x ≡ isType t → y ≡ datedFrom q → y ≡ typedFrom s
     unfolding datedFrom typedFrom
-    typed-all e f = rw (← d, ← e, h, ← field-behind s r 2 0 c, ← field-behind s r 2 2 c) f
+    typed-all e f = rw (← d, ← e, h, behind-two 0, behind-two 2) f
 
-pub ruleset for-dated-code = (needs, dated-not, dated-both)
+pub ruleset for-dated-code = (needs, long-as, date-filled, dated-not, dated-both)
 
-pub ruleset for-typed-code = (needs, typed-not, typed-all)
+pub ruleset for-typed-code = (needs, long-as, type-filled, typed-not, typed-all)
 
 -- in_block
 module _ (l : Text) (k : ℕ) (d : k ≡ recordOf l) where
@@ -119,4 +172,4 @@ module _ (l : Text) (k : ℕ) (d : k ≡ recordOf l) where
         )
         f
 
-pub ruleset for-in-block = (needs, block-kind, block-3, block-all)
+pub ruleset for-in-block = (needs, long-as, uli-filled, block-kind, block-3, block-all)

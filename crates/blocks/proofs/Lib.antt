@@ -1,5 +1,7 @@
 -- The laws of the crate, for the crates above and for its own proofs.
 -- Assumes nothing.
+-- Laws that these share
+mod StartLaws
 -- What the functions' own needs ask
 mod AlikeNeeds
 mod BlockNeeds

@@ -7,8 +7,10 @@ use texts::is_date;
 use texts::is_type;
 use texts::is_uli;
 ghost use mathlib.Core.Path.{_≡_};
+ghost use Prim.Native.Nat.{_≤_};
+ghost use lib.ListN.{length, drop};
 ghost use Rattle.house.specs.Text.{same};
-ghost use Rattle.lines.specs.Lines.{fieldOf};
+ghost use Rattle.lines.specs.Lines.{fieldOf, fieldsLen};
 ghost use Rattle.lines.specs.Records.{recOf};
 ghost use Rattle.rules.specs.Blocks.{isInBlock, joins};
 ghost use Rattle.blocks.specs.From.{datedFrom, typedFrom, sameDated, sameTyped, sameFrom, InCommon};
@@ -108,12 +110,23 @@ pub fn joins(a: &[u8], b: &[u8]) -> bool
     same_from(l.fields, &p[at..], &q[at..])
 }
 
+// A text behind its first field, which has so many bytes and is not empty.
+fn past(text: &[u8], len: usize) -> &[u8]
+    requires { ⌜ len ≡ length (fieldOf (now text) 1) ⌝ }
+    requires { ⌜ 1 ≤ len ⌝ }
+    ensures { λ r. ⌜ now r ≡ drop (fieldsLen 1 (now (text .entry))) (now (text .entry)) ⌝ }
+{
+    let start = len + 1;
+    &text[start..]
+}
+
 // Whether fields 6 and 8 of an II are sound, from its field 6 on.
 fn is_dated_code(sixth: &[u8]) -> bool
     ensures { λ r. ⌜ r ≡ datedFrom (now (sixth .entry)) ⌝ }
 {
-    if is_date(field_from(sixth, 0)) {
-        is_code(field_from(behind(sixth, 2), 0))
+    let t = field_from(sixth, 0);
+    if is_date(t) {
+        is_code(field_from(behind(past(sixth, t.len()), 1), 0))
     } else {
         false
     }
@@ -123,8 +136,9 @@ fn is_dated_code(sixth: &[u8]) -> bool
 fn is_typed_code(fourth: &[u8]) -> bool
     ensures { λ r. ⌜ r ≡ typedFrom (now (fourth .entry)) ⌝ }
 {
-    if is_type(field_from(fourth, 0)) {
-        is_dated_code(behind(fourth, 2))
+    let t = field_from(fourth, 0);
+    if is_type(t) {
+        is_dated_code(behind(past(fourth, t.len()), 1))
     } else {
         false
     }
@@ -138,8 +152,9 @@ pub fn in_block(line: &[u8]) -> bool
         return false;
     }
     let third = behind(line, 2);
-    if is_uli(field_from(third, 0)) {
-        is_typed_code(behind(third, 1))
+    let t = field_from(third, 0);
+    if is_uli(t) {
+        is_typed_code(past(third, t.len()))
     } else {
         false
     }

@@ -14,4 +14,5 @@ is-dated-code-spec =
     (λ c. search for-dated-code)
     (λ c. search for-dated-code)
     (λ c. search for-dated-code)
+    (λ c. search for-dated-code)
     (λ c. search for-dated-code))

@@ -13,4 +13,5 @@ is-typed-code-spec =
     (λ c. search for-typed-code)
     (λ c. search for-typed-code)
     (λ c. search for-typed-code)
+    (λ c. search for-typed-code)
     (λ c. search for-typed-code))
