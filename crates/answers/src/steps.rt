@@ -27,21 +27,21 @@ struct Tally {
 fn judge_all(
     today: u32,
     file: &[u8],
-    book: &[u8],
+    guided: &[u8],
     q: Sections,
     ledger: &[u8],
     live: usize,
     area: &mut [u8],
     room: &mut [u32],
 ) -> Tally
-    requires { ⌜ Ready (lent today (now file) (take (q .end) (now book)) (now ledger) (now area)) q live ⌝ }
+    requires { ⌜ Ready (lent today (now file) (take (q .end) (now guided)) (now ledger) (now area)) q live ⌝ }
     requires { ⌜ shapeOf (now file) ≡ Right ⌝ }
     requires { ⌜ length (now room) ≡ 96154 ⌝ }
-    ensures { λ r. ⌜ r ≡ tallyOf (lent today (now (file .entry)) (take (q .end) (now (book .entry))) (now (ledger .entry)) (now (area .entry))) ⌝ }
-    ensures { λ _. ⌜ now (area .exit) ≡ areaAfter (now (area .entry)) (findings (lent today (now (file .entry)) (take (q .end) (now (book .entry))) (now (ledger .entry)) (now (area .entry)))) ⌝ }
+    ensures { λ r. ⌜ r ≡ tallyOf (lent today (now (file .entry)) (take (q .end) (now (guided .entry))) (now (ledger .entry)) (now (area .entry))) ⌝ }
+    ensures { λ _. ⌜ now (area .exit) ≡ areaAfter (now (area .entry)) (findings (lent today (now (file .entry)) (take (q .end) (now (guided .entry))) (now (ledger .entry)) (now (area .entry)))) ⌝ }
     ensures { λ r. ⌜ Judges (now (file .entry)) (now (ledger .entry)) live r (now (room .exit)) ⌝ }
 {
-    let j = judge::judge(today, file, book, q, ledger, live, room, area);
+    let j = judge::judge(today, file, guided, q, ledger, live, room, area);
     match j {
         Judged::Done {
             blocks,
@@ -89,19 +89,19 @@ fn settle_front(
 fn judged_in(
     today: u32,
     file: &[u8],
-    book: &[u8],
+    guided: &[u8],
     q: Sections,
     ledger: &mut [u8],
     live: usize,
     area: &mut [u8],
     room: &mut [u32],
 ) -> Answer
-    requires { ⌜ Ready (lent today (now file) (take (q .end) (now book)) (now ledger) (now area)) q live ⌝ }
+    requires { ⌜ Ready (lent today (now file) (take (q .end) (now guided)) (now ledger) (now area)) q live ⌝ }
     requires { ⌜ shapeOf (now file) ≡ Right ⌝ }
     requires { ⌜ length (now room) ≡ 96154 ⌝ }
-    ensures { λ r. ⌜ left r (now (ledger .exit)) (now (area .exit)) ≡ judged (lent today (now (file .entry)) (take (q .end) (now (book .entry))) (now (ledger .entry)) (now (area .entry))) ⌝ }
+    ensures { λ r. ⌜ left r (now (ledger .exit)) (now (area .exit)) ≡ judged (lent today (now (file .entry)) (take (q .end) (now (guided .entry))) (now (ledger .entry)) (now (area .entry))) ⌝ }
 {
-    let n = judge_all(today, file, book, q, ledger, live, area, room);
+    let n = judge_all(today, file, guided, q, ledger, live, area, room);
     let findings = n.findings;
     if findings == 0 {
         settle_front(file, ledger, live, room, n.blocks, n.declined)
@@ -114,18 +114,18 @@ fn judged_in(
 fn judged_with(
     today: u32,
     file: &[u8],
-    book: &[u8],
+    guided: &[u8],
     q: Sections,
     ledger: &mut [u8],
     live: usize,
     area: &mut [u8],
 ) -> Answer
-    requires { ⌜ Ready (lent today (now file) (take (q .end) (now book)) (now ledger) (now area)) q live ⌝ }
+    requires { ⌜ Ready (lent today (now file) (take (q .end) (now guided)) (now ledger) (now area)) q live ⌝ }
     requires { ⌜ shapeOf (now file) ≡ Right ⌝ }
-    ensures { λ r. ⌜ left r (now (ledger .exit)) (now (area .exit)) ≡ judged (lent today (now (file .entry)) (take (q .end) (now (book .entry))) (now (ledger .entry)) (now (area .entry))) ⌝ }
+    ensures { λ r. ⌜ left r (now (ledger .exit)) (now (area .exit)) ≡ judged (lent today (now (file .entry)) (take (q .end) (now (guided .entry))) (now (ledger .entry)) (now (area .entry))) ⌝ }
 {
     let mut room = [0u32; 96154];
-    judged_in(today, file, book, q, ledger, live, area, &mut room)
+    judged_in(today, file, guided, q, ledger, live, area, &mut room)
 }
 
 // From FINDINGS on, in a room for the book with its guesses.

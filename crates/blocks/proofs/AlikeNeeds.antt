@@ -10,17 +10,15 @@ use borrow.Author.Needs.{needs}
 use borrow.Author.Tests.{eq-eqb, ne-eqb, le-leb, leb-true, leb-false}
 use lib.Dec.{leb}
 use lib.ListN.{length, take, drop, getD}
-use lib.Seq.{getD-take}
 use Rattle.house.specs.Text.{Text, same}
 use Rattle.house.proofs.Decisions.{is-same}
-use Rattle.house.proofs.Suffix.{drop-here}
+use Rattle.house.proofs.Suffix.{drop-here, rest}
 use Rattle.lines.specs.Lines.{pipe, lengthen, fieldsOf, fieldOf, fieldsLen}
 use Rattle.lines.specs.Records.{recOf}
-use Rattle.lines.proofs.FieldLaws.{fields-le}
+use Rattle.lines.proofs.FieldLaws.{start-zero, lengthen-take, fields-le, fields-alike}
 use Rattle.rules.specs.Blocks.{sameEvent, joins}
 use Rattle.forms.proofs.FieldLaws.{text-is, field-behind}
 use Rattle.blocks.specs.From.{sameDated, sameTyped, sameBehind, sameFrom, InCommon}
-use Rattle.blocks.proofs.StartLaws.{starts-zero, rest}
 
 -- alike: in a text t the field after n fields starts at a position, and the later ones where the fields from position i on say
 pub record Starts (t : Text) (n at i : ℕ) : Type 0 where
@@ -28,13 +26,7 @@ pub record Starts (t : Text) (n at i : ℕ) : Type 0 where
   pub later : (m : ℕ) → fieldsLen (n + suc m) t ≡ i + fieldsLen (suc m) (drop i t)
 
 starts-first : (t : Text) → Starts t 0 0 0
-starts-first t = record { this = sym (starts-zero t); later = λ m. rw (zero-add, zero-add) }
-
--- a byte more of the first field
-take-lengthen : (m b : ℕ) (fs : List Text) → take (suc m) (lengthen b fs) ≡ lengthen b (take (suc m) fs)
-unfolding lengthen
-take-lengthen m b [] = refl
-take-lengthen m b (f ∷ fs) = refl
+starts-first t = record { this = sym (start-zero t); later = λ m. rw (zero-add, zero-add) }
 
 module _ (t : Text) (i : ℕ) (h : i < length t) (m : ℕ) where
   module _ (e : getD t i 0 ≡ pipe) where
@@ -49,7 +41,7 @@ module _ (t : Text) (i : ℕ) (h : i < length t) (m : ℕ) where
   module _ (z : getD t i 0 ≡ pipe → ⊥) where
     text-take : take (suc m) (fieldsOf (drop i t)) ≡ lengthen (getD t i 0) (take (suc m) (fieldsOf (drop (i + 1) t)))
     unfolding fieldsOf
-    text-take = rw (drop-here t i h, ne-eqb _ _ z) (take-lengthen m (getD t i 0) (fieldsOf (drop (i + 1) t)))
+    text-take = rw (drop-here t i h, ne-eqb _ _ z) (lengthen-take m (getD t i 0) (fieldsOf (drop (i + 1) t)))
 
     text-len : fieldsLen (suc m) (drop i t) ≡ suc (fieldsLen (suc m) (drop (i + 1) t))
     unfolding fieldsLen
@@ -60,7 +52,7 @@ module _ (t : Text) (n at i : ℕ) (g : Starts t n at i) (h : i < length t) wher
   starts-pipe e = record { this = first; later = next }
     where
       first : i + 1 ≡ fieldsLen (n + 1) t
-      first = rw (g .later 0, pipe-len t i h 0 e, starts-zero)
+      first = rw (g .later 0, pipe-len t i h 0 e, start-zero)
 
       next : (m : ℕ) → fieldsLen (n + 1 + suc m) t ≡ i + 1 + fieldsLen (suc m) (drop (i + 1) t)
       next m = let k : n + 1 + suc m ≡ n + suc (suc m) = omega arith in rw (k, g .later (suc m), pipe-len t i h (suc m) e) (omega arith)
@@ -200,17 +192,12 @@ module _ (p q : Text) (n at : ℕ) (g : InCommon p q n at) where
   behind-q : (j : ℕ) → fieldOf (drop at q) (suc j) ≡ fieldOf q (suc (n + j))
   behind-q j = field-behind q (drop at q) n j (ap (λ (k : ℕ). drop k q) (g .there))
 
-  field-alike : (f : ℕ) → f < n → fieldOf p (suc f) ≡ fieldOf q (suc f)
-  unfolding fieldOf
-  field-alike f h =
-      sym (getD-take n (fieldsOf p) f [] h) ∙ ap (λ (fs : List Text). getD fs f []) (g .alike) ∙ getD-take n (fieldsOf q) f [] h
-
   same-behind : (f : ℕ) → sameBehind n (suc f) (drop at p) (drop at q) ≡ same (fieldOf p (suc f)) (fieldOf q (suc f))
   unfolding sameBehind
   same-behind f = go (leb (suc f) n) refl
     where
       go : (x : Bool) → leb (suc f) n ≡ x → sameBehind n (suc f) (drop at p) (drop at q) ≡ same (fieldOf p (suc f)) (fieldOf q (suc f))
-      go true h = rw h (sym (is-same (fieldOf p (suc f)) (fieldOf q (suc f)) (field-alike f (leb-true (suc f) n h))))
+      go true h = rw h (sym (is-same (fieldOf p (suc f)) (fieldOf q (suc f)) (fields-alike p q n (g .alike) f (leb-true (suc f) n h))))
       go false h =
           let i : suc f - n ≡ suc (f - n) = omega (arith, leb-false (suc f) n h) in
           let k : n + (f - n) ≡ f = omega (arith, leb-false (suc f) n h) in

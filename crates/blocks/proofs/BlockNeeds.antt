@@ -20,7 +20,8 @@ use Rattle.blocks.specs.From.{datedFrom, typedFrom, sameDated, sameTyped
 use Rattle.forms.proofs.FieldLaws.{text-is, kind-is}
 use Rattle.forms.proofs.FieldLaws.{field-behind}
 use Rattle.forms.proofs.SoundLaws.{ii-3, ii-4, ii-6, ii-8}
-use Rattle.blocks.proofs.StartLaws.{starts-past, rest}
+use Rattle.house.proofs.Suffix.{rest}
+use Rattle.blocks.proofs.StartLaws.{starts-past}
 
 -- same_first
 pub first-same : (a b t u : Text) (x : Bool) → t ≡ fieldOf a 1 → u ≡ fieldOf b 1 → x ≡ same t u → x ≡ same (fieldOf a 1) (fieldOf b 1)

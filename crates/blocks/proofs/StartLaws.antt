@@ -1,22 +1,16 @@
--- Where the first fields of a text start, and the text from there on.
+-- Where the second field of a text starts: behind the first and its pipe.
 -- Assumes nothing.
-use mathlib.Core.Path.{_≡_, refl, ap}
+use mathlib.Core.Path.{_≡_, ap}
 use mathlib.Core.Bool.{Bool, true, false, cond}
 use mathlib.Core.List.{List, [], _∷_}
-use Prim.Native.Nat.{ℕ, suc, _-_, _≤_}
+use Prim.Native.Nat.{suc, _≤_}
 use native.Mathlib.Omega.{arith}
 use lib.Dec.{eqb}
-use lib.ListN.{length, take, drop, getD, length-drop}
-use lib.Seq.{take-all}
+use lib.ListN.{length, getD}
 use Rattle.house.specs.Text.{Text}
+use Rattle.lines.proofs.FieldLaws.{start-zero}
 use Rattle.lines.specs.Lines.{pipe, lengthen, fieldsOf, fieldOf, fieldsLen}
 
-pub starts-zero : (t : Text) → fieldsLen 0 t ≡ 0
-unfolding fieldsLen
-starts-zero [] = refl
-starts-zero (b ∷ t) = refl
-
--- the second one, behind the first and its pipe
 starts-one : (t : Text) → 1 ≤ length (fieldsOf t) → fieldsLen 1 t ≡ suc (length (getD (fieldsOf t) 0 []))
 unfolding fieldsOf fieldsLen lengthen
 starts-one [] h = absurd (omega arith)
@@ -24,7 +18,7 @@ starts-one (b ∷ t) h = go (eqb b pipe) (fieldsOf t) (starts-one t) h
   where
     go : (v : Bool) (fs : List Text) → (1 ≤ length fs → fieldsLen 1 t ≡ suc (length (getD fs 0 []))) → 1 ≤ length (cond v ([] ∷ fs) (lengthen b fs))
         → suc (cond v (fieldsLen 0 t) (fieldsLen 1 t)) ≡ suc (length (getD (cond v ([] ∷ fs) (lengthen b fs)) 0 []))
-    go true fs r k = ap suc (starts-zero t)
+    go true fs r k = ap suc (start-zero t)
     go false [] r k = absurd (omega arith)
     go false (f ∷ fs) r k = ap suc (r (omega arith))
 
@@ -35,6 +29,3 @@ starts-past t h = starts-one t (go (fieldsOf t) h)
     go : (fs : List Text) → 1 ≤ length (getD fs 0 []) → 1 ≤ length fs
     go [] k = absurd (omega arith)
     go (f ∷ fs) k = omega arith
-
-pub rest : (t : Text) (at : ℕ) → take (length t - at) (drop at t) ≡ drop at t
-rest t at = take-all (length t - at) (drop at t) (omega (arith, length-drop at t))

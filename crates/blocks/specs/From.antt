@@ -1,4 +1,4 @@
--- What the functions on blocks ask of an II from a field on, which is the first of the text.
+-- Working definitions: what the functions on blocks ask of an II from a field on, which is the first of the text, and of two of them. No public contract rests on this page.
 -- Assumes nothing.
 use Prim.Native.Nat.{ℕ, _-_}
 use mathlib.Core.Path.{_≡_}
@@ -26,8 +26,8 @@ sameDated t u = same (fieldOf t 1) (fieldOf u 1) && same (fieldOf t 3) (fieldOf 
 unfoldable pub sameTyped : Text → Text → Bool
 sameTyped t u = same (fieldOf t 1) (fieldOf u 1) && (same (fieldOf t 3) (fieldOf u 3) && same (fieldOf t 5) (fieldOf u 5))
 
--- two of them from behind n fields on, counted from field 3, that are alike: their field f, counted so, is the same. It is one of those, or the
--- texts have it in common
+-- two IIs, given from behind their first n fields, counted from field 3, which are alike: is field f, counted so, the same? It is one of those n, or it is
+-- the same in both texts
 unfoldable pub sameBehind : ℕ → ℕ → Text → Text → Bool
 sameBehind n f t u = leb f n || same (fieldOf t (f - n)) (fieldOf u (f - n))
 

@@ -1,3 +1,3 @@
--- What the functions on blocks ask of an II from a field on, which is the first of the text.
+-- Working definitions of the functions on blocks.
 -- Assumes nothing.
 pub mod From

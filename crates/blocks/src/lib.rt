@@ -1,4 +1,4 @@
-// Blocks: whether an II is in one, and whether two of them name one event. A line is read once: from the start of field 3, and on from there.
+// Blocks: whether an II is in one, and whether two of them name one event. Each is read from field 3 on, field by field.
 use forms::behind;
 use lines::II;
 use lines::field_from;
@@ -78,7 +78,7 @@ fn alike(a: &[u8], b: &[u8]) -> Common
     Common { fields, at }
 }
 
-// Whether two IIs are of one event and one type, each from behind so many fields on, counted from field 3, in which they are alike.
+// Whether two IIs are of one event and one type. Both are given from behind their first fields, counted from field 3: so many, which are alike.
 fn same_from(fields: usize, a: &[u8], b: &[u8]) -> bool
     ensures { λ r. ⌜ r ≡ sameFrom fields (now (a .entry)) (now (b .entry)) ⌝ }
 {
@@ -99,7 +99,7 @@ fn same_from(fields: usize, a: &[u8], b: &[u8]) -> bool
     }
 }
 
-// Whether two lines are of one event and one type. Most that are asked of begin with the same fields, which are passed over in both at once.
+// Whether two lines are of one event and one type. The fields that both begin with, byte for byte, are passed over in both at once.
 pub fn joins(a: &[u8], b: &[u8]) -> bool
     ensures { λ r. ⌜ r ≡ joins (recOf (now (a .entry))) (recOf (now (b .entry))) ⌝ }
 {

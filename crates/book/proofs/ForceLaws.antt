@@ -22,7 +22,8 @@ use Rattle.book.specs.Book.{vaccine, startWidth, codeWidth, bodyWidth, E
 use Rattle.book.specs.LookUp.{inForceAt}
 use Rattle.book.specs.Inside.{startHolds, endHolds, datesHold, bodyHolds}
 use Rattle.book.proofs.EntryLaws.{form-is}
-use Rattle.book.proofs.FormLaws.{front, rest, start-in, code-in, code-long, dates-long}
+use Rattle.house.proofs.Suffix.{rest}
+use Rattle.book.proofs.FormLaws.{front, start-in, code-in, code-long, dates-long}
 use Rattle.book.proofs.ReadLaws.{isNone, unwhole, read-head, read-whole, read-body, read-in, read-part, read-long}
 
 -- start_holds, end_holds

@@ -7,13 +7,13 @@ use native.Mathlib.Omega.{arith}
 use borrow.Author.Tests.{ne-eqb, le-leb, lt-leb}
 use borrow.Author.Needs.{needs}
 use lib.ListN.{length, getD, take, drop, length-drop}
-use lib.Seq.{take-all, length-take-le}
+use lib.Seq.{length-take-le}
 use Rattle.house.specs.Text.{Text, digits, isPadded}
 use Rattle.dates.specs.Dates.{isEnd, datedOf}
 use Rattle.dates.specs.declared.Date.{Date}
 use Rattle.dates.specs.declared.Dated.{Dated}
 use Rattle.dates.specs.declared.Dated.the-variants.{Day, NoDate}
-use Rattle.house.proofs.Suffix.{drop-here, drop-past}
+use Rattle.house.proofs.Suffix.{drop-here, drop-past, rest}
 use Rattle.dates.proofs.DateLaws.{dated-true, dated-false}
 use Rattle.book.specs.declared.Read.the-variants as read
 use Rattle.book.specs.Book.{firstWidth, startWidth, codeWidth, bodyWidth, firstForm, secondForm, codeForm, startForm, datesForm, bodyForm, isWhole, readAt}
@@ -83,12 +83,9 @@ module _ (k : ℕ) (t : Text) where
 
 pub ruleset for-parts = (needs, first-digits, first-padded, second-digits, second-padded, second-free, start-day, start-not, start-free)
 
--- a front of a text, and the rest
+-- a front of a text
 pub front : (t : Text) (a : ℕ) → a ≤ length t → a ≡ length (take a t)
 front t a h = sym (length-take-le a t h)
-
-pub rest : (t : Text) (a : ℕ) → take (length t - a) (drop a t) ≡ drop a t
-rest t a = take-all (length t - a) (drop a t) (omega (arith, length-drop a t))
 
 module _ (k : ℕ) (t : Text) (a : ℕ) where
   pub first-in : a ≡ firstWidth k → length t ≡ codeWidth k → a ≤ length t

@@ -4,22 +4,21 @@ use mathlib.Core.Path.{_≡_, refl, sym, ap, _∙_}
 use mathlib.Core.Bool.{Bool, true, false, cond}
 use mathlib.Core.List.{[], _∷_, _++_, append-nil}
 use Prim.Native.Nat.{ℕ, zero, suc, _+_, _-_, _*_, _/_, _%_, _≤_, _<_}
-use native.Mathlib.Nat.{add-sub-cancel-left, mod-lt, not-suc-le-zero, le-of-suc-le-suc}
+use native.Mathlib.Nat.{mod-lt}
 use native.Mathlib.Numerals.{add-one}
 use native.Mathlib.Omega.{arith}
 use borrow.Author.Tests.{eq-eqb, ne-eqb, le-leb, lt-leb}
 use borrow.Author.Needs.{needs}
 use borrow.Rule.Slice.PartMut.{putMid}
 use lib.Dec.{eqb}
-use lib.ListN.{length, take, drop, getD, set, length-drop, length-append, List·getD-eq-default}
+use lib.ListN.{length, take, drop, getD, set, length-append, List·getD-eq-default}
 use lib.Seq.{take-append-seam, drop-append-seam, take-all}
 use Rattle.house.specs.Text.{Text}
-use Rattle.house.proofs.Suffix.{drop-here, drop-past}
+use Rattle.house.proofs.Suffix.{drop-here, drop-past, rest, set-past, copy-more}
 use Rattle.book.specs.declared.Sections.{Sections}
 use Rattle.book.specs.Book.{firstWidth, secondWidth, codeWidth, bodyWidth, filled, codeText}
 use Rattle.book.specs.LookUp.{sectionStart, countIn, placeOf, mix, guess, noteRow, noteRows, noteKinds, guided}
-use Rattle.book.proofs.WidthLaws.{code-parts}
-use Rattle.book.proofs.SearchLaws.{probe-mul, probe-add, probe-body, probe-code}
+use Rattle.book.proofs.SearchLaws.{count-from, probe-mul, probe-add, probe-body, probe-code}
 
 -- mix
 module _ (t : Text) (from h i : ℕ) (inv : mix from t ≡ mix h (drop i t)) where
@@ -75,19 +74,12 @@ module _ (s : Text) (q : Sections) (k : ℕ) (a b : Text) where
   pub guess-is : (v f m : ℕ) → v ≡ k → f ≡ mix v a → m ≡ mix f b → (x y : ℕ) → x ≡ getD (take (length s - q .end) (drop (q .end) s)) (m * 2) 0 → y ≡ getD (take (length s - q .end) (drop (q .end) s)) (m * 2 + 1) 0
       → x + y * 256 ≡ guess s q k (codeText k a b)
   unfolding guess
-  guess-is v f m ev ef em x y ex ey =
-      let all : take (length s - q .end) (drop (q .end) s) ≡ drop (q .end) s = take-all (length s - q .end) (drop (q .end) s) (omega (arith, length-drop (q .end) s)) in
-      rw (mix-code k a b, ← ev, ← ef, ← em, ← all, ← ex, ← ey)
+  guess-is v f m ev ef em x y ex ey = rw (mix-code k a b, ← ev, ← ef, ← em, ← rest s (q .end), ← ex, ← ey)
 
 pub ruleset for-guess = (needs, guess-none, guess-is)
 
 -- put_byte
-pub put-past : (t : Text) (at b : ℕ) → length t ≤ at → t ≡ set t at b
-put-past [] at b h = refl
-put-past (x ∷ t) zero b h = absurd (omega arith)
-put-past (x ∷ t) (suc at) b h = ap (λ (l : Text). x ∷ l) (put-past t at b (omega arith))
-
-pub ruleset for-put-byte = (needs, put-past)
+pub ruleset for-put-byte = (needs, set-past)
 
 -- note_row
 module _ (s : Text) (from n i w p q : ℕ) (h : i < n) (g : n * w ≤ length s - from) (v : p + q < w) (z : length s < 18446744073709551616) where
@@ -121,10 +113,7 @@ module _ (s : Text) (k from : ℕ) (t₀ : Text) where
   pub rows-end : (i n : ℕ) (t : Text) (q : Sections) → t ≡ noteRows s k from i t₀ → i ≤ n → n ≤ i → from ≡ sectionStart q k → n ≡ countIn s q k → t ≡ noteRows s k (sectionStart q k) (countIn s q k) t₀
   rows-end i n t q e l m f g = let d : i ≡ n = omega arith in rw (← f, ← g, ← d) e
 
-  pub rows-bound : (w n : ℕ) (q : Sections) → from ≡ sectionStart q k → n * w ≤ length s - sectionStart q k → n * w ≤ length s - from
-  rows-bound w n q e h = rw e h
-
-pub ruleset for-note-rows = (needs, rows-start, rows-on, rows-end, rows-bound)
+pub ruleset for-note-rows = (needs, count-from, rows-start, rows-on, rows-end)
 
 -- note_kinds
 module _ (s : Text) (q : Sections) (t₀ : Text) where
@@ -144,13 +133,7 @@ pub ruleset for-note-kinds = (needs, kinds-start, kinds-on, kinds-end)
 -- copy_book
 module _ (s room old : Text) (i : ℕ) (e : room ≡ take i s ++ drop i old) where
   pub copy-on : i < length s → length s ≤ length old → set room i (getD s i 0) ≡ take (i + 1) s ++ drop (i + 1) old
-  copy-on h l = rw (e, add-one) (go s old i h (omega arith))
-    where
-      go : (s old : Text) (i : ℕ) → i < length s → i < length old → set (take i s ++ drop i old) i (getD s i 0) ≡ take (suc i) s ++ drop (suc i) old
-      go [] old i h k = absurd (not-suc-le-zero h)
-      go (x ∷ s) [] i h k = absurd (not-suc-le-zero k)
-      go (x ∷ s) (y ∷ old) zero h k = refl
-      go (x ∷ s) (y ∷ old) (suc i) h k = ap (λ (l : Text). x ∷ l) (go s old i (le-of-suc-le-suc h) (le-of-suc-le-suc k))
+  copy-on h l = rw e (copy-more s old i h (omega arith))
 
   pub copy-end : i ≤ length s → length s ≤ i → room ≡ s ++ drop (length s) old
   copy-end h k = let d : i ≡ length s = omega arith in e ∙ rw d (ap (λ (t : Text). t ++ drop (length s) old) (take-all (length s) s (omega arith)))
@@ -167,8 +150,8 @@ module _ (s : Text) (q : Sections) (room : Text) where
     pub guide-part : length s ≤ length u
     guide-part = rw e (omega (arith, length-append s (drop (length s) room)))
 
-    rest : drop (length s) u ≡ drop (length s) room
-    rest = rw e (drop-append-seam s (drop (length s) room))
+    behind : drop (length s) u ≡ drop (length s) room
+    behind = rw e (drop-append-seam s (drop (length s) room))
 
     size : length u - length s ≡ length (drop (length s) room)
     size = omega (arith, ap length e, length-append s (drop (length s) room))
@@ -176,8 +159,8 @@ module _ (s : Text) (q : Sections) (room : Text) where
     pub guide-is : (t : Text) → t ≡ noteKinds s q 8 (take (length u - length s) (drop (length s) u)) → putMid (length s) (length u - length s) u t ≡ guided s q room
     unfolding guided
     guide-is t f =
-        let all : take (length u - length s) (drop (length s) u) ≡ drop (length s) room = ap (take (length u - length s)) rest ∙ take-all (length u - length s) (drop (length s) room) (omega (arith, size)) in
-        let none : drop (length u - length s) (drop (length s) u) ≡ [] = ap (drop (length u - length s)) rest ∙ drop-past (drop (length s) room) (length u - length s) (omega (arith, size)) in
+        let all : take (length u - length s) (drop (length s) u) ≡ drop (length s) room = ap (take (length u - length s)) behind ∙ take-all (length u - length s) (drop (length s) room) (omega (arith, size)) in
+        let none : drop (length u - length s) (drop (length s) u) ≡ [] = ap (drop (length u - length s)) behind ∙ drop-past (drop (length s) room) (length u - length s) (omega (arith, size)) in
         let front : take (length s) u ≡ s = ap (take (length s)) e ∙ take-append-seam s (drop (length s) room) in
         rw (le-leb _ _ h, none, front, append-nil) (ap (λ (x : Text). s ++ x) (f ∙ ap (noteKinds s q 8) all))
 

@@ -1,4 +1,5 @@
--- The entries of one kind as rows of one width: where they stand, that their codes ascend, and that a test of that kind asks them alone.
+-- The entries of one kind as rows of one width: where they stand, that their codes ascend, that bytes behind them alter nothing, and that a test of that
+-- kind asks them alone.
 -- Assumes nothing.
 use mathlib.Core.Path.{_≡_, refl, sym, ap, _∙_, subst}
 use mathlib.Core.Bool.{Bool, true, false, _||_}

@@ -1,5 +1,5 @@
--- What each need of the look-up asks: `Sections::start`, `codes_fit`, `code_order`, `section_count`, `probe`, `found_if`, `guessed`, `seek`, `sought`
--- and `find`.
+-- What each need of the look-up asks: `Sections::start`, `codes_fit`, `widths_of`, `code_order`, `section_count`, `probe`, `found_if`, `guessed`,
+-- `seek`, `sought` and `find`.
 -- Assumes nothing.
 use mathlib.Core.Path.{_≡_, refl, sym, ap, _∙_}
 use mathlib.Core.Bool.{Bool, true, false}
@@ -13,7 +13,7 @@ use lib.Dec.{leb}
 use lib.ListN.{length, take, drop, length-drop}
 use lib.Seq.{drop-drop, take-add, length-take-le}
 use Rattle.house.specs.Text.{Text, orderOf, pad}
-use Rattle.house.specs.Search.{byOrder, halve}
+use Rattle.house.specs.Search.{halve}
 use Rattle.house.specs.declared.Order.{Order}
 use Rattle.house.specs.declared.Order.the-variants.{Less, Same, More}
 use Rattle.house.proofs.Small.{both}
@@ -25,8 +25,8 @@ use Rattle.book.specs.declared.Position.{Position}
 use Rattle.book.specs.declared.Found.{Found}
 use Rattle.book.specs.declared.Found.the-variants.{At, Absent}
 use Rattle.book.specs.Book.{firstWidth, secondWidth, codeWidth, bodyWidth, filled, codeText}
-use Rattle.book.specs.LookUp.{sectionStart, countIn, placeOf, orderAt, foundAt, fits, guess, guessedIn, halvedIn, soughtIn, foundIn}
-use Rattle.book.specs.Inside.{codePadded, codeOrder, foundIf}
+use Rattle.book.specs.LookUp.{sectionStart, countIn, placeOf, orderAt, foundAt, fits, guess, foundIf, guessedIn, halvedIn, soughtIn, foundIn}
+use Rattle.book.specs.Inside.{codePadded, codeOrder}
 use Rattle.book.proofs.WidthLaws.{code-parts, body-parts}
 
 -- Sections::start
@@ -133,6 +133,10 @@ module _ (s : Text) (q : Sections) (k from to : ℕ) (ef : from ≡ sectionStart
         let m : (to - from) / w * w ≤ to - from = div-mul-le-self (to - from) w in
         omega arith
 
+-- what a count says of the section's start, as the callers name it
+pub count-from : (s : Text) (q : Sections) (k from n w : ℕ) → from ≡ sectionStart q k → n * w ≤ length s - sectionStart q k → n * w ≤ length s - from
+count-from s q k from n w e h = rw e h
+
 pub ruleset for-section-count = (needs, count-back, count-out, count-is, count-in)
 
 -- probe
@@ -179,15 +183,12 @@ module _ (s : Text) (q : Sections) (k : ℕ) (a b : Text) (f : fits k a b ≡ tr
   unfolding guessedIn
   guessed-past h = rw (← en, ← ei, le-ltb i n h)
 
-  pub guessed-bound : (w : ℕ) → n * w ≤ length s - sectionStart q k → n * w ≤ length s - from
-  guessed-bound w h = rw ef h
-
   pub guessed-is : (r : Found) (o : Order) (at w p v : ℕ) → i < n → w ≡ bodyWidth k + 1 → p ≡ firstWidth k → v ≡ secondWidth k → at ≡ from + i * w → o ≡ codeOrder s (from + i * w + 1) p v a b → r ≡ foundIf o at → r ≡ guessedIn s q k (codeText k a b)
-  unfolding guessedIn orderAt foundAt placeOf foundIf codeOrder codePadded codeWidth
+  unfolding guessedIn orderAt placeOf codeOrder codePadded codeWidth
   guessed-is r o at w p v h ew ep eq ea eo er =
       er ∙ rw (eo, ea, ← en, ← ei, lt-ltb i n h, ← ef, code-text k a b f, ew, ep, eq)
 
-pub ruleset for-guessed = (needs, guessed-past, guessed-bound, guessed-is)
+pub ruleset for-guessed = (needs, count-from, guessed-past, guessed-is)
 
 -- seek: what is left to halve
 abbrev pub Seeks : Text → ℕ → ℕ → ℕ → Text → ℕ → ℕ → Type 0
@@ -196,10 +197,6 @@ Seeks s k from n x lo hi = Halves (orderAt s k from x) (foundAt k from) Absent (
 module _ (s : Text) (k from n : ℕ) where
   pub seek-start : (x : Text) → Seeks s k from n x 0 n
   seek-start x = halves-start (orderAt s k from x) (foundAt k from) Absent n
-
-  module _ (w : ℕ) where
-    pub seek-bound : (q : Sections) → from ≡ sectionStart q k → n * w ≤ length s - sectionStart q k → n * w ≤ length s - from
-    seek-bound q e h = rw e h
 
   module _ (lo hi : ℕ) (a b : Text) (inv : Seeks s k from n (codePadded k a b) lo hi) where
     module _ (h : lo < hi) (o : Order) (w p q : ℕ) (e : o ≡ codeOrder s (from + (lo + (hi - lo) / 2) * w + 1) p q a b) (ew : w ≡ bodyWidth k + 1) (ep : p ≡ firstWidth k) (eq : q ≡ secondWidth k) where
@@ -229,7 +226,7 @@ module _ (s : Text) (k from n : ℕ) where
           ∙ turn-hit (orderAt s k from (codePadded k a b)) (foundAt k from) Absent (halve (orderAt s k from (codePadded k a b)) (foundAt k from) Absent n 0 n) lo hi inv h o (probed h o w p q e ew ep eq) z
           ∙ sought
 
-pub ruleset for-seek = (needs, seek-start, seek-bound, seek-up, seek-down, seek-end, seek-hit)
+pub ruleset for-seek = (needs, count-from, seek-start, seek-up, seek-down, seek-end, seek-hit)
 
 -- sought
 module _ (s : Text) (q : Sections) (k : ℕ) (a b : Text) (g : Found) (e : g ≡ guessedIn s q k (codeText k a b)) where

@@ -13,7 +13,7 @@ use lib.Dec.{eqb, ltb, leb}
 use lib.ListN.{length, take, drop, length-take, length-drop, length-append, take-append-drop}
 use lib.Seq.{drop-drop, drop-append-le, take-append-seam, length-take-le}
 use Rattle.house.specs.Text.{Text, any, orderOf}
-use Rattle.house.specs.Search.{byOrder, halve}
+use Rattle.house.specs.Search.{halve}
 use Rattle.house.specs.declared.Order.{Order}
 use Rattle.house.specs.declared.Order.the-variants.{Less, Same, More}
 use Rattle.house.proofs.Small.{clash, both, Three, lt, eq, gt, three}
@@ -29,7 +29,7 @@ use Rattle.book.specs.declared.Validity.the-variants.{Valid, Malformed}
 use Rattle.book.specs.declared.Standing.{Standing}
 use Rattle.book.specs.declared.Standing.the-variants.{Unknown, OutOfForce, InForce}
 use Rattle.book.specs.Book.{firstWidth, secondWidth, codeWidth, bodyWidth, Entry, entryOf, entries, codeOf, entryForm, bytesBefore, bookOk, bookOf, sectionsOf, validOf, Sound, filled, codeText, isEntry, listed, listedOn, inForce, standingOf}
-use Rattle.book.specs.LookUp.{sectionStart, countIn, placeOf, orderAt, foundAt, fits, guess, guessedIn, halvedIn, elseFound, soughtIn, foundIn, inForceAt, standingAt, standingIn, noteKinds, guided}
+use Rattle.book.specs.LookUp.{sectionStart, countIn, placeOf, orderAt, foundAt, fits, guess, foundIf, guessedIn, halvedIn, elseFound, soughtIn, foundIn, inForceAt, standingAt, standingIn, noteKinds, guided}
 use Rattle.book.specs.Inside.{soundFrom}
 use Rattle.book.proofs.WidthLaws.{code-parts, body-parts, by-kind}
 use Rattle.book.proofs.EntryLaws.{unroll, form-says, code-is, bytes-here, floor-zero, top-false}
@@ -55,7 +55,7 @@ module _ (s : Text) (q : Sections) (k : ℕ) (a b : Text) (d : ℕ) (f : Found) 
 pub ruleset for-look-up = (needs, look-no, look-in, look-out)
 
 -- the section of a kind in a valid book: its entries, and no other of that kind
-book-sound : (s : Text) → bookOk s ≡ true → soundFrom 1 [] (entries s) ≡ true
+pub book-sound : (s : Text) → bookOk s ≡ true → soundFrom 1 [] (entries s) ≡ true
 book-sound s h = both (leb (length s) 262144) (soundFrom 1 [] (entries s)) (sym (book-is s) ∙ h) .1
 
 bytes-zero : (es : List Entry) → bytesBefore 0 es ≡ 0
@@ -205,14 +205,14 @@ module _ (s book : Text) (q : Sections) (k n : ℕ) (sec : Section s book q k n)
 
   -- whatever the guess
   sought : (d : ℕ) → standingAt s d (soughtIn s q k x) ≡ standingOf (entries book) k x d
-  unfolding soughtIn guessedIn halvedIn foundAt
+  unfolding soughtIn guessedIn foundIf halvedIn foundAt
   sought d = go (ltb i (countIn s q k)) refl (orderAt s k from x i) refl
     where
       i : ℕ
       i = guess s q k x
 
       go : (u : Bool) → ltb i (countIn s q k) ≡ u → (o : Order) → orderAt s k from x i ≡ o
-          → standingAt s d (elseFound (cond u (byOrder o Absent (foundAt k from i) Absent) Absent) (halve (orderAt s k from x) (foundAt k from) Absent (countIn s q k) 0 (countIn s q k))) ≡ standingOf (entries book) k x d
+          → standingAt s d (elseFound (cond u (foundIf o (placeOf k from i)) Absent) (halve (orderAt s k from x) (foundAt k from) Absent (countIn s q k) 0 (countIn s q k))) ≡ standingOf (entries book) k x d
       go true z Less e = finds d
       go true z Same e = hits i (omega (arith, ltb-true i (countIn s q k) z, sec .count)) e d
       go true z More e = finds d
@@ -325,7 +325,7 @@ unfolding guided
 guided-starts s q room h l = rw (le-leb _ _ l) (ap (λ (n : ℕ). take n (s ++ noteKinds s q 8 (drop (length s) room))) (end-is s q h) ∙ take-append-seam s (noteKinds s q 8 (drop (length s) room)))
 
 module _ (s : Text) (q : Sections) (h : Sound (take (q .end) s) q) (k : ℕ) (a b : Text) where
-  -- what the answer of `look_up` says of the book in use
+  -- what the answer of `look_up` says of the book at the front
   module _ (d : ℕ) (r : Standing) (e : r ≡ standingIn s q k a b d) where
     says : (saysKnown r ≡ listed (bookOf (take (q .end) s)) k (codeText k a b)) × (saysInForce r ≡ listedOn (bookOf (take (q .end) s)) d k (codeText k a b))
     unfolding bookOf standingOf

@@ -7,11 +7,8 @@ use mathlib.Core.List.{List, [], _∷_, _++_}
 use lib.ListN.{length, take, drop}
 use lib.Dec.{eqb, leb}
 use Rattle.house.specs.Text.{Text, below, number, pad, orderOf}
-use Rattle.house.specs.Search.{byOrder}
 use Rattle.house.specs.declared.Order.{Order}
 use Rattle.dates.specs.Dates.{isDate, isEnd}
-use Rattle.book.specs.declared.Found.{Found}
-use Rattle.book.specs.declared.Found.the-variants.{At, Absent}
 use Rattle.book.specs.Book.{vaccine, firstWidth, secondWidth, startWidth, codeWidth, bodyWidth, Entry, entryOf, entries, codeOf, bodyForm, entryForm, above, bytesBefore}
 
 -- Validity, kind by kind
@@ -58,7 +55,3 @@ codePadded k a b = pad (firstWidth k) a ++ pad (secondWidth k) b
 -- how the code of p bytes at a place, and the one of q behind it, stand to two texts, padded
 unfoldable pub codeOrder : Text → ℕ → ℕ → ℕ → Text → Text → Order
 codeOrder s at p q a b = orderOf (take (p + q) (drop at s)) (pad p a ++ pad q b)
-
--- a place, if what stands there is the same as what is sought
-unfoldable pub foundIf : Order → ℕ → Found
-foundIf o at = byOrder o Absent (At (record { at = at })) Absent

@@ -50,29 +50,38 @@ foundAt k from i = At (record { at = placeOf k from i })
 unfoldable pub fits : ℕ → Text → Text → Bool
 fits k a b = leb (length a) (firstWidth k) && leb (length b) (secondWidth k)
 
--- the number that a code is mixed to, by its bytes other than blanks: the same with and without its padding
+-- the number below 32768 that a code is mixed to, from h on, at first its kind: by its bytes other than blanks, so the same with and without padding
 unfoldable pub mix : ℕ → Text → ℕ
 mix h [] = h
 mix h (b ∷ t) = cond (eqb b 32) (mix h t) (mix ((h * 31 + b) % 32768) t)
 
--- which entry of a kind the table behind the last section names for a code: two bytes, the lower first
+-- which entry of a kind the table behind the last section names for a code: two bytes, the lower first; 0 for a byte that is not there
 unfoldable pub guess : Text → Sections → ℕ → Text → ℕ
-guess s q k code = getD (drop (q .end) s) (mix k code * 2) 0 + getD (drop (q .end) s) (mix k code * 2 + 1) 0 * 256
+guess s q k code =
+    let table = drop (q .end) s in
+    let at = mix k code * 2 in
+    getD table at 0 + getD table (at + 1) 0 * 256
 
--- where that entry is, if it has the code
+-- a place, if what stands there is what is sought
+unfoldable pub foundIf : Order → ℕ → Found
+foundIf o at = byOrder o Absent (At (record { at = at })) Absent
+
+-- where the entry that the guess names is, if there is one and it has the code
 unfoldable pub guessedIn : Text → Sections → ℕ → Text → Found
 guessedIn s q k code =
-    cond (ltb (guess s q k code) (countIn s q k))
-    (byOrder (orderAt s k (sectionStart q k) code (guess s q k code)) Absent (foundAt k (sectionStart q k) (guess s q k code)) Absent) Absent
+    let i = guess s q k code in
+    cond (ltb i (countIn s q k)) (foundIf (orderAt s k (sectionStart q k) code i) (placeOf k (sectionStart q k) i)) Absent
 
 -- where an entry with the code is, by halving
 unfoldable pub halvedIn : Text → Sections → ℕ → Text → Found
 halvedIn s q k code = halve (orderAt s k (sectionStart q k) code) (foundAt k (sectionStart q k)) Absent (countIn s q k) 0 (countIn s q k)
 
+-- the first place, or the second where there is none
 abbrev pub elseFound : Found → Found → Found
 elseFound (At p) f = At p
 elseFound Absent f = f
 
+-- where an entry with the code is, by guess and then by halving
 unfoldable pub soughtIn : Text → Sections → ℕ → Text → Found
 soughtIn s q k code = elseFound (guessedIn s q k code) (halvedIn s q k code)
 

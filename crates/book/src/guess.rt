@@ -1,5 +1,5 @@
-// Guesses: a table behind a book that says, by a number that a code is mixed to, which entry of its kind to ask first. A guess that is wrong costs
-// time and alters no answer.
+// Guesses: a table behind a book that says, by a number that a code is mixed to, which entry of its kind to ask first. In a valid book a guess that is
+// wrong costs time and alters no answer.
 use crate::Sections;
 use crate::search::Widths;
 use crate::search::section_count;
@@ -141,7 +141,7 @@ fn copy_book(book: &[u8], room: &mut [u8])
     }
 }
 
-// Copies a book to the front of a room and notes its entries in what is left of it; not where the book has no room.
+// Copies a book to the front of a room and notes its entries in what is left of it. Where the room is shorter than the book it stays as lent.
 pub fn guide(book: &[u8], sections: Sections, room: &mut [u8])
     ensures { λ _. ⌜ now (room .exit) ≡ guided (now (book .entry)) sections (now (room .entry)) ⌝ }
 {

@@ -11,10 +11,9 @@ ghost use mathlib.Core.Path.{_≡_};
 ghost use mathlib.Core.Bool.{true};
 ghost use Prim.Native.Nat.{_<_, _≤_, _+_, _-_, _*_};
 ghost use lib.ListN.{length};
-ghost use Rattle.book.specs.Book.{firstWidth, secondWidth, bodyWidth};
-ghost use Rattle.book.specs.Book.{codeText};
-ghost use Rattle.book.specs.LookUp.{sectionStart, countIn, fits, guessedIn, halvedIn, soughtIn, foundIn};
-ghost use Rattle.book.specs.Inside.{codeOrder, foundIf};
+ghost use Rattle.book.specs.Book.{firstWidth, secondWidth, bodyWidth, codeText};
+ghost use Rattle.book.specs.LookUp.{sectionStart, countIn, fits, foundIf, guessedIn, halvedIn, soughtIn, foundIn};
+ghost use Rattle.book.specs.Inside.{codeOrder};
 
 impl Sections {
     // Where the entries of kind k start, and those of the kind before it end.

@@ -8,10 +8,10 @@ use native.Mathlib.Omega.{arith}
 use borrow.Author.Needs.{needs}
 use borrow.Author.Tests.{eq-eqb, ne-eqb, le-leb}
 use lib.Dec.{eqb}
-use lib.ListN.{length, take, drop, length-drop}
-use lib.Seq.{take-all}
+use lib.ListN.{length, take, drop}
 use Rattle.house.specs.Text.{Text, any, within, isEmpty, same}
 use Rattle.house.proofs.Small.{Three, lt, eq, gt, three}
+use Rattle.house.proofs.Suffix.{rest}
 use Rattle.lines.specs.Lines.{fieldsOf, fieldOf, fieldsLen}
 use Rattle.lines.specs.Records.{Rec, recOf}
 use Rattle.lines.proofs.FieldLaws.{fields-le}
@@ -127,7 +127,7 @@ module _ (t : Text) (f s : ℕ) (e : s ≡ fieldsLen f t) where
   behind-in = rw e (fields-le f t)
 
   pub behind-is : take (length t - s) (drop s t) ≡ drop (fieldsLen f t) t
-  behind-is = rw (← e) (take-all (length t - s) (drop s t) (omega (arith, length-drop s t)))
+  behind-is = rw (← e) (rest t s)
 
 pub ruleset for-behind = (needs, behind-in, behind-is)
 

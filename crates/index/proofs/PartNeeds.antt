@@ -10,7 +10,7 @@ use borrow.Author.Needs.{needs}
 use lib.ListN.{length, getD, take, drop, set, length-set, take-append-drop}
 use lib.Seq.{drop-set-lt}
 use Rattle.house.specs.Text.{Text, same}
-use Rattle.house.proofs.Suffix.{drop-here, drop-past}
+use Rattle.house.proofs.Suffix.{drop-here, drop-past, set-past}
 use Rattle.lines.specs.declared.LineAt.{LineAt}
 use Rattle.lines.specs.Lines.{lineOf, fieldOf, LineIs}
 use Rattle.lines.proofs.LineLaws.{lines-past, at-text, at-from, at-in}
@@ -34,12 +34,7 @@ typed-is f letter p at g r i a c = c ∙ rw (a, i)
 pub ruleset for-is-typed = (needs, typed-is)
 
 -- put
-pub put-past : (out : List ℕ) (n p : ℕ) → length out ≤ n → out ≡ set out n p
-put-past [] n p h = refl
-put-past (x ∷ out) zero p h = absurd (omega arith)
-put-past (x ∷ out) (suc n) p h = ap (λ (l : List ℕ). x ∷ l) (put-past out n p (omega arith))
-
-pub ruleset for-put = (needs, put-past)
+pub ruleset for-put = (needs, set-past)
 
 -- a place written at n
 over-nil : (xs : List ℕ) → over xs [] ≡ []

@@ -1,4 +1,4 @@
--- What a file is judged by, as look-ups by halving say it, is what a well-formed book lists and a well-formed ledger holds.
+-- What a file is judged by, as look-ups say it, is what a well-formed book lists and a well-formed ledger holds.
 -- Assumes nothing.
 use mathlib.Core.Path.{_≡_, refl, sym, ap, _∙_, fun-ext}
 use mathlib.Core.Bool.{Bool, true, false, cond, _&&_}
@@ -10,7 +10,6 @@ use lib.Dec.{eqb, leb}
 use lib.ListN.{length, take, drop, length-drop, take-append-drop}
 use lib.Seq.{length-take-le}
 use Rattle.house.specs.Text.{Text, same}
-use Rattle.house.proofs.Small.{both}
 use Rattle.house.proofs.Decisions.{not-same}
 use Rattle.book.specs.declared.Sections.{Sections}
 use Rattle.book.specs.declared.Found.{Found}
@@ -19,12 +18,10 @@ use Rattle.book.specs.declared.Standing.{Standing}
 use Rattle.book.specs.declared.Standing.the-variants.{Unknown, OutOfForce, InForce}
 use Rattle.book.specs.Book.{firstWidth, secondWidth, codeWidth, Entry, entries, codeOf, entryForm, bookOf, Sound, filled, codeText, isEntry, listed, listedOn, inForce}
 use Rattle.book.specs.LookUp.{soughtIn, standingAt, foundIn as foundWith, standingIn}
-use Rattle.book.specs.Inside.{soundFrom}
 use Rattle.book.proofs.WidthLaws.{code-parts, body-parts}
 use Rattle.book.proofs.EntryLaws.{form-says}
-use Rattle.book.proofs.OrderlyLaws.{book-is}
 use Rattle.book.proofs.KindLaws.{none-sound}
-use Rattle.book.proofs.StandingLaws.{saysInForce, look-in-force, absent-known, found-known}
+use Rattle.book.proofs.StandingLaws.{book-sound, saysInForce, look-in-force, absent-known, found-known}
 use Rattle.ledger.specs.Ledger.{Event, ledgerOk, liveIn, isAmong, foundIn}
 use Rattle.ledger.proofs.FoundLaws.{found-live}
 use Rattle.later.specs.Look.{foundBy, isThere, isInForceIn, knownBy, forceBy}
@@ -63,27 +60,30 @@ says-in-force OutOfForce = refl
 says-in-force InForce = refl
 
 module _ (s : Text) (q : Sections) (h : Sound (take (q .end) s) q) (k : ℕ) (code : Text) where
+  abbrev book : Text
+  book = take (q .end) s
+
   -- of the right width
   module _ (w : length code ≡ codeWidth k) where
     found-two : foundBy s q k code ≡ foundWith s q k (first k code w) (second k code w)
     found-two = ap (foundBy s q k) (sym (in-two k code w)) ∙ sym (found-is s q k (first k code w) (second k code w))
 
-    known-wide : knownBy s q k code ≡ listed (bookOf (take (q .end) s)) k code
+    known-wide : knownBy s q k code ≡ listed (bookOf book) k code
     unfolding knownBy
     known-wide =
-        ap isThere found-two ∙ go (foundWith s q k (first k code w) (second k code w)) refl ∙ ap (listed (bookOf (take (q .end) s)) k) (in-two k code w)
+        ap isThere found-two ∙ go (foundWith s q k (first k code w) (second k code w)) refl ∙ ap (listed (bookOf book) k) (in-two k code w)
       where
-        go : (f : Found) → f ≡ foundWith s q k (first k code w) (second k code w) → isThere f ≡ listed (bookOf (take (q .end) s)) k (codeText k (first k code w) (second k code w))
+        go : (f : Found) → f ≡ foundWith s q k (first k code w) (second k code w) → isThere f ≡ listed (bookOf book) k (codeText k (first k code w) (second k code w))
         go Absent e = sym (absent-known s q h k (first k code w) (second k code w) Absent e refl)
         go (At p) e = sym (found-known s q h k (first k code w) (second k code w) (At p) e p refl)
 
-    force-wide : (d : ℕ) → forceBy s q d k code ≡ listedOn (bookOf (take (q .end) s)) d k code
+    force-wide : (d : ℕ) → forceBy s q d k code ≡ listedOn (bookOf book) d k code
     unfolding forceBy standingIn
     force-wide d =
         ap (λ (f : Found). isInForceIn (standingAt s d f)) found-two
         ∙ says-in-force (standingIn s q k (first k code w) (second k code w) d)
         ∙ sym (look-in-force s q h k (first k code w) (second k code w) d (standingIn s q k (first k code w) (second k code w) d) refl)
-        ∙ ap (listedOn (bookOf (take (q .end) s)) d k) (in-two k code w)
+        ∙ ap (listedOn (bookOf book) d k) (in-two k code w)
 
   -- of another width: no entry has it
   module _ (n : length code ≡ codeWidth k → ⊥) where
@@ -103,32 +103,29 @@ module _ (s : Text) (q : Sections) (h : Sound (take (q .end) s) q) (k : ℕ) (co
         go true = refl
         go false = refl
 
-    sound : soundFrom 1 [] (entries (take (q .end) s)) ≡ true
-    sound = both (leb (length (take (q .end) s)) 262144) (soundFrom 1 [] (entries (take (q .end) s))) (sym (book-is (take (q .end) s)) ∙ h .ok) .1
-
-    known-other : knownBy s q k code ≡ listed (bookOf (take (q .end) s)) k code
+    known-other : knownBy s q k code ≡ listed (bookOf book) k code
     unfolding knownBy listed bookOf
-    known-other = ap isThere nowhere ∙ sym (none-sound (isEntry k code) 1 [] (entries (take (q .end) s)) sound (λ e l f. not-entry e f))
+    known-other = ap isThere nowhere ∙ sym (none-sound (isEntry k code) 1 [] (entries book) (book-sound book (h .ok)) (λ e l f. not-entry e f))
 
-    force-other : (d : ℕ) → forceBy s q d k code ≡ listedOn (bookOf (take (q .end) s)) d k code
+    force-other : (d : ℕ) → forceBy s q d k code ≡ listedOn (bookOf book) d k code
     unfolding forceBy listedOn bookOf
     force-other d =
         ap (λ (f : Found). isInForceIn (standingAt s d f)) nowhere
-        ∙ sym (none-sound (λ (e : Entry). isEntry k code e && inForce d e) 1 [] (entries (take (q .end) s)) sound (λ e l f. rw (not-entry e f)))
+        ∙ sym (none-sound (λ (e : Entry). isEntry k code e && inForce d e) 1 [] (entries book) (book-sound book (h .ok)) (λ e l f. rw (not-entry e f)))
 
   -- the code is known exactly if the book lists it
-  pub known-is : knownBy s q k code ≡ listed (bookOf (take (q .end) s)) k code
+  pub known-is : knownBy s q k code ≡ listed (bookOf book) k code
   known-is = go (eqb (length code) (codeWidth k)) refl
     where
-      go : (b : Bool) → eqb (length code) (codeWidth k) ≡ b → knownBy s q k code ≡ listed (bookOf (take (q .end) s)) k code
+      go : (b : Bool) → eqb (length code) (codeWidth k) ≡ b → knownBy s q k code ≡ listed (bookOf book) k code
       go true z = known-wide (eqb-true (length code) (codeWidth k) z)
       go false z = known-other (eqb-false (length code) (codeWidth k) z)
 
   -- and in force on a day exactly if the book lists it so
-  pub force-is : (d : ℕ) → forceBy s q d k code ≡ listedOn (bookOf (take (q .end) s)) d k code
+  pub force-is : (d : ℕ) → forceBy s q d k code ≡ listedOn (bookOf book) d k code
   force-is d = go (eqb (length code) (codeWidth k)) refl
     where
-      go : (b : Bool) → eqb (length code) (codeWidth k) ≡ b → forceBy s q d k code ≡ listedOn (bookOf (take (q .end) s)) d k code
+      go : (b : Bool) → eqb (length code) (codeWidth k) ≡ b → forceBy s q d k code ≡ listedOn (bookOf book) d k code
       go true z = force-wide (eqb-true (length code) (codeWidth k) z) d
       go false z = force-other (eqb-false (length code) (codeWidth k) z) d
 

@@ -14,7 +14,7 @@ use Rattle.judge.specs.declared.Judged.{Judged}
 use Rattle.judge.specs.declared.Judged.the-variants.{Done, TooMany}
 use Rattle.judge.specs.Look.{settingBy}
 
--- the findings of a file, by what halving finds in the book's sections and in the first n slots of the ledger
+-- the findings of a file, by what look-ups find in the book's sections and in the first n slots of the ledger
 unfoldable pub findingsBy : ℕ → Text → Text → Sections → Text → ℕ → List Finding
 findingsBy today file book q ledger n = findingsOf (settingBy today book q (foundIn ledger n)) file
 

@@ -1,4 +1,4 @@
--- What a file is judged by, as look-ups by halving in a book of any bytes and sections say it. Of a book that is well formed they say what
+-- What a file is judged by, as look-ups in a book of any bytes and sections say it. Of bytes that start with a well-formed book they say what
 -- it lists (proofs/SettingLaws).
 -- Assumes nothing.
 use Prim.Native.Nat.{ℕ}

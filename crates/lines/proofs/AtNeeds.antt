@@ -15,7 +15,8 @@ use Rattle.house.specs.Text.{Text}
 use Rattle.house.proofs.Suffix.{drop-here, drop-past}
 use Rattle.lines.specs.Lines.{pipe, endingOf, lineOf, textLen, lengthen, fieldsOf, fieldOf, fieldsLen}
 use Rattle.lines.proofs.LineLaws.{line-more, plain-more, line-stop, line-nil, text-is, text-le}
-use Rattle.lines.proofs.FieldNeeds.{start-zero, start-cons, field-zero}
+use Rattle.lines.proofs.FieldLaws.{start-zero}
+use Rattle.lines.proofs.FieldNeeds.{start-cons, field-zero}
 use Rattle.lines.proofs.PositionLaws.{field-on}
 
 -- the text of a line from position i on

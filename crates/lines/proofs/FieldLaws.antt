@@ -9,7 +9,7 @@ use native.Mathlib.Omega.{arith}
 use borrow.Author.Tests.{ltb-true, ltb-false}
 use lib.Dec.{eqb, ltb}
 use lib.ListN.{length, getD, take, drop, length-drop}
-use lib.Seq.{drop-drop, drop-nil, getD-drop, length-take-le}
+use lib.Seq.{drop-drop, drop-nil, getD-drop, getD-take, length-take-le}
 use Rattle.house.specs.Text.{Text}
 use Rattle.lines.specs.Lines.{pipe, lengthen, fieldsOf, fieldOf, fieldsLen}
 use Rattle.lines.specs.Inside.{pipeLen}
@@ -19,6 +19,11 @@ pub lengthen-length : (b : ℕ) (fs : List Text) → length (lengthen b fs) ≡ 
 unfolding lengthen
 lengthen-length b [] = refl
 lengthen-length b (f ∷ fs) = refl
+
+pub lengthen-take : (n b : ℕ) (fs : List Text) → take (suc n) (lengthen b fs) ≡ lengthen b (take (suc n) fs)
+unfolding lengthen
+lengthen-take n b [] = refl
+lengthen-take n b (f ∷ fs) = refl
 
 lengthen-drop : (n b : ℕ) (fs : List Text) → drop (suc n) (lengthen b fs) ≡ drop (suc n) fs
 unfolding lengthen
@@ -57,6 +62,11 @@ fields-after (suc f) (b ∷ t) = go (eqb b pipe) (fields-after f t) (fields-afte
         → fieldsOf (drop (cond v (fieldsLen f t) (fieldsLen (suc f) t)) t) ≡ drop (suc f) (cond v ([] ∷ fieldsOf t) (lengthen b (fieldsOf t)))
     go true h k = h
     go false h k = k ∙ sym (lengthen-drop f b (fieldsOf t))
+
+pub start-zero : (t : Text) → fieldsLen 0 t ≡ 0
+unfolding fieldsLen
+start-zero [] = refl
+start-zero (b ∷ t) = refl
 
 pub fields-le : (f : ℕ) (t : Text) → fieldsLen f t ≤ length t
 unfolding fieldsLen
@@ -142,3 +152,8 @@ module _ (t : Text) (at f : ℕ) (e : fieldsOf (drop at t) ≡ drop f (fieldsOf 
       let k : at + length (fieldOf (drop at t) 1) + 1 ≡ at + suc (pipeLen (drop at t)) = omega (arith, next-length) in
       let n : f + 1 ≡ suc f = omega arith in
       rw (k, ← drop-drop) (ap (drop 1) next-first ∙ rw (drop-drop, n))
+
+-- a field of two texts that are alike in their first n
+pub fields-alike : (t u : Text) (n : ℕ) → take n (fieldsOf t) ≡ take n (fieldsOf u) → (f : ℕ) → f < n → fieldOf t (suc f) ≡ fieldOf u (suc f)
+unfolding fieldOf
+fields-alike t u n e f h = sym (getD-take n (fieldsOf t) f [] h) ∙ ap (λ (fs : List Text). getD fs f []) e ∙ getD-take n (fieldsOf u) f [] h

@@ -18,7 +18,7 @@ use Rattle.house.proofs.Suffix.{drop-here, drop-past}
 use Rattle.lines.specs.Lines.{pipe, textLen, fieldsOf, fieldOf, textAt, fieldText, fieldThere, linesLen, fieldsLen, fieldPosition}
 use Rattle.lines.specs.Inside.{pipeLen}
 use Rattle.lines.proofs.LineLaws.{text-le, text-after}
-use Rattle.lines.proofs.FieldLaws.{lengthen-length, fields-few, fields-split, fields-pass, fields-first, fields-none, fields-le, field-first}
+use Rattle.lines.proofs.FieldLaws.{lengthen-length, fields-few, fields-split, fields-pass, fields-first, fields-none, fields-le, field-first, start-zero}
 
 -- count_few, count_fields: the count x, from a position i with n fields counted; a turn leaves m
 pub count-holds : (t : Text) → length (fieldsOf t) ≡ 0 + length (fieldsOf t)
@@ -56,11 +56,6 @@ run-short t i e m l h = omega (arith, length-take-le (e - i) (drop i t) (omega (
 pub ruleset for-count-fields = (needs, count-holds, run-on, run-few, run-short, count-end)
 
 -- field_start: the start x, from a position i with f fields left
-pub start-zero : (t : Text) → fieldsLen 0 t ≡ 0
-unfolding fieldsLen
-start-zero [] = refl
-start-zero (b ∷ t) = refl
-
 pub start-cons : (f b : ℕ) (t : Text) → (f ≡ 0 → ⊥) → fieldsLen f (b ∷ t) ≡ suc (cond (eqb b pipe) (fieldsLen (f - 1) t) (fieldsLen f t))
 unfolding fieldsLen
 start-cons zero b t n = absurd (n refl)

@@ -9,14 +9,13 @@ use native.Mathlib.Omega.{arith}
 use borrow.Author.Needs.{needs}
 use borrow.Author.Tests.{ne-eqb, eqb-true, eqb-false}
 use lib.Dec.{eqb, ltb}
-use lib.ListN.{length, getD, take, drop, length-drop}
-use lib.Seq.{take-all}
+use lib.ListN.{length, getD, take, drop}
 use Rattle.dates.specs.declared.Date.{Date}
 use Rattle.dates.specs.declared.Dated.{Dated}
 use Rattle.dates.specs.declared.Dated.the-variants.{Day, NoDate}
 use Rattle.house.specs.Text.{Text, all, any, front, behind, same, within, run, digits, number, isDigit}
 use Rattle.dates.specs.Dates.{isDate, datedOf}
-use Rattle.house.proofs.Suffix.{drop-here, drop-past}
+use Rattle.house.proofs.Suffix.{drop-here, drop-past, rest}
 use Rattle.house.proofs.Decisions.{is-same, not-same}
 use Rattle.dates.proofs.NumberLaws.{for-number-of}
 use Rattle.dates.proofs.DateLaws.{dated-true, dated-false}
@@ -272,10 +271,6 @@ behind-is (b ∷ t) = go (isDigit b) (behind-is t)
     go true h = h
     go false h = refl
 
--- a part that goes to the end
-tail-part : (t : Text) (n : ℕ) → take (length t - n) (drop n t) ≡ drop n t
-tail-part t n = take-all (length t - n) (drop n t) (omega (arith, length-drop n t))
-
 pub fraction-none : (t : Text) → length t ≡ 0 → true ≡ isFraction t
 unfolding isFraction
 fraction-none [] h = refl
@@ -289,14 +284,14 @@ fraction-other (b ∷ t) h n = rw (ne-eqb b 46 n)
 pub fraction-point : (t : Text) (x : Bool) → (length t ≡ 0 → ⊥) → getD t 0 0 ≡ 46 → x ≡ run 1 2 (inClass 1) (take (length t - 1) (drop 1 t)) → x ≡ isFraction t
 unfolding isFraction inClass
 fraction-point [] x h n e = absurd (h refl)
-fraction-point (b ∷ t) x h n e = rw n (e ∙ ap (λ (s : Text). run 1 2 isDigit s) (tail-part (b ∷ t) 1))
+fraction-point (b ∷ t) x h n e = rw n (e ∙ ap (λ (s : Text). run 1 2 isDigit s) (rest (b ∷ t) 1))
 
 pub ruleset for-fraction = (needs, fraction-none, fraction-other, fraction-point)
 
 module _ (t : Text) (n : ℕ) (e : n ≡ digitsLen t) where
   dosage-by : isDosage t ≡ within 1 6 n && (isFraction (take (length t - n) (drop n t)) && any (within 49 57) t)
   unfolding isDosage
-  dosage-by = rw (tail-part t n, e, ← behind-is t, ← len-is t)
+  dosage-by = rw (rest t n, e, ← behind-is t, ← len-is t)
 
   pub dosage-low : n < 1 → false ≡ isDosage t
   dosage-low h = rw (dosage-by, within-low 1 6 n h)
