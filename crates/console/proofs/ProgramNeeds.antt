@@ -2,6 +2,7 @@
 -- Assumes nothing.
 use mathlib.Core.Path.{_≡_, refl, sym, ap, _∙_}
 use mathlib.Core.Bool.{Bool, true, false, cond, _&&_}
+use mathlib.Core.List.{[], _∷_}
 use Prim.Native.Nat.{ℕ, _-_, _≤_, _<_}
 use native.Mathlib.Omega.{arith}
 use borrow.Author.Needs.{needs}
@@ -21,8 +22,8 @@ use Rattle.book.specs.declared.Validity.{Validity}
 use Rattle.book.specs.declared.Validity.the-variants.{Valid, Malformed}
 use Rattle.book.specs.Book.{bookOk, validOf, sectionsOf}
 use Rattle.answers.specs.declared.Answer.{Answer}
-use Rattle.answers.specs.declared.Answer.the-variants.{Date as NoDay, Long, Book, Ledger}
-use Rattle.answers.specs.Answers.{lent, left, check}
+use Rattle.answers.specs.declared.Answer.the-variants.{Accepted, Date as NoDay, Long, Book, Ledger, Shape, Findings, Full}
+use Rattle.answers.specs.Answers.{lent, left, check, numbersOf}
 use Rattle.console.specs.Program.{isDated, todayIn, overLong, answerOf}
 
 -- today_in
@@ -126,3 +127,39 @@ module _ (input book ledger area : Text) (today : ℕ) (e : today ≡ todayIn in
             ∙ sym (rw (is-day, short, le-ltb 16000 (length book) b, le-ltb 7600 (length ledger) h))
 
 pub ruleset for-answer = (needs, answer-date, answer-in, answer-long, answer-book, answer-over, answer-check)
+
+-- numbers_of
+module _ (a : Answer) where
+  pub numbers-accepted : (b c d n x y z w : ℕ) → a ≡ Accepted b c d n → x ≡ b → y ≡ c → z ≡ d → w ≡ n → (0 ∷ 0 ∷ 0 ∷ 0 ∷ x ∷ y ∷ z ∷ w ∷ []) ≡ numbersOf a
+  unfolding numbersOf
+  numbers-accepted b c d n x y z w e f g h i = rw (e, f, g, h, i)
+
+  pub numbers-date : a ≡ NoDay → (1 ∷ 0 ∷ 0 ∷ 0 ∷ 0 ∷ 0 ∷ 0 ∷ 0 ∷ []) ≡ numbersOf a
+  unfolding numbersOf
+  numbers-date e = rw e
+
+  pub numbers-long : a ≡ Long → (2 ∷ 0 ∷ 0 ∷ 0 ∷ 0 ∷ 0 ∷ 0 ∷ 0 ∷ []) ≡ numbersOf a
+  unfolding numbersOf
+  numbers-long e = rw e
+
+  pub numbers-book : a ≡ Book → (3 ∷ 0 ∷ 0 ∷ 0 ∷ 0 ∷ 0 ∷ 0 ∷ 0 ∷ []) ≡ numbersOf a
+  unfolding numbersOf
+  numbers-book e = rw e
+
+  pub numbers-ledger : a ≡ Ledger → (4 ∷ 0 ∷ 0 ∷ 0 ∷ 0 ∷ 0 ∷ 0 ∷ 0 ∷ []) ≡ numbersOf a
+  unfolding numbersOf
+  numbers-ledger e = rw e
+
+  pub numbers-shape : (n c x : ℕ) → a ≡ Shape n c → x ≡ n → (5 ∷ x ∷ c ∷ 0 ∷ 0 ∷ 0 ∷ 0 ∷ 0 ∷ []) ≡ numbersOf a
+  unfolding numbersOf
+  numbers-shape n c x e f = rw (e, f)
+
+  pub numbers-findings : (n x : ℕ) → a ≡ Findings n → x ≡ n → (6 ∷ 0 ∷ 0 ∷ x ∷ 0 ∷ 0 ∷ 0 ∷ 0 ∷ []) ≡ numbersOf a
+  unfolding numbersOf
+  numbers-findings n x e f = rw (e, f)
+
+  pub numbers-full : a ≡ Full → (7 ∷ 0 ∷ 0 ∷ 0 ∷ 0 ∷ 0 ∷ 0 ∷ 0 ∷ []) ≡ numbersOf a
+  unfolding numbersOf
+  numbers-full e = rw e
+
+pub ruleset for-numbers-of = (needs, numbers-accepted, numbers-date, numbers-long, numbers-book, numbers-ledger, numbers-shape, numbers-findings, numbers-full)

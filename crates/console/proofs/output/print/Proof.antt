@@ -6,10 +6,10 @@ use Rattle.console.proofs.output.print.Statement.{statement}
 use Rattle.console.proofs.output.print.Tie as tie
 
 abbrev Inv-loop : tie.InvT-loop
-Inv-loop area n i₀ i = i ≤ 1000
+Inv-loop area numbers i₀ i = i ≤ 1000
 
 abbrev μ-loop : tie.MeasureT-loop
-μ-loop area n i₀ i = 1000 - i
+μ-loop area numbers i₀ i = 1000 - i
 
 pub print-spec : {M : Type 1} → statement M
 print-spec =
@@ -17,6 +17,9 @@ print-spec =
     (tie.spec
     Inv-loop
     μ-loop
+    (λ c. search needs)
+    (λ c. search needs)
+    (λ c. search needs)
     (λ c. search needs)
     (λ c. search needs)
     (λ c. search needs)
