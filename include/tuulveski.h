@@ -1,11 +1,11 @@
 /* Tuulveski: the check of an immunization submission, for charting products in C.
  *
- * Link with libtuulveski.a (`rt staticlib tuulveski` writes it). It calls memset and nothing else: no allocation, no file, no lock,
- * no state between calls. Two threads may call at once as long as what they lend does not overlap.
+ * Link with libtuulveski.a (`rt staticlib tuulveski` writes it). It calls memset and memcpy and nothing else: no allocation, no file,
+ * no lock, no state between calls. Two threads may call at once as long as what they lend does not overlap.
  *
  * Every input gets an answer: nothing that the caller says of file, book, ledger or date is trusted.
  *
- * STACK. A call takes up to 2.2 MB of the caller's stack. Give a thread that calls it at least 4 MiB.
+ * STACK. A call takes up to 2.5 MB of the caller's stack. Give a thread that calls it at least 4 MiB.
  *
  * EXAMPLE
  *
