@@ -105,13 +105,12 @@ module _ (k : ℕ) where
     rows-longer (suc n) c t r l =
         let y = first-in n t l in
         let d : drop 1 (t ++ more) ≡ drop 1 t ++ more = drop-append-le 1 t more (omega (arith, y .0)) in
-        let e = entry-longer t (y .0) in
-        (
+        let e = entry-longer t (y .0) in (
           ap (λ (u : Text). u ++ more) (r .0) ∙ ap (λ (u : Text). k ∷ u) (sym d),
           ap entryForm e ∙ r .1,
           ap (λ (x : Entry). orderOf c (codeOf x)) e ∙ r .2,
           subst (λ (x : Entry). Rows (codeOf x) (drop (bodyWidth k + 1) (t ++ more)) n) (sym e)
-          (subst (λ (u : Text). Rows (codeOf (entryOf k (drop 1 t))) u n) (sym (rest-longer t (y .0))) (rows-longer n _ (drop (bodyWidth k + 1) t) (r .3) (y .1))),
+              (subst (λ (u : Text). Rows (codeOf (entryOf k (drop 1 t))) u n) (sym (rest-longer t (y .0))) (rows-longer n _ (drop (bodyWidth k + 1) t) (r .3) (y .1))),
         )
 
     pub any-longer : (p : Entry → Bool) (n : ℕ) (t : Text) → n * (bodyWidth k + 1) ≤ length t → anyRow p (t ++ more) n ≡ anyRow p t n

@@ -78,15 +78,7 @@ fn put_byte(table: &mut [u8], at: usize, b: u8)
 }
 
 // Notes entry i of those of these widths and of kind k that start at `from`, of which there are n.
-fn note_row(
-    book: &[u8],
-    k: u8,
-    from: usize,
-    n: usize,
-    i: usize,
-    w: Widths,
-    table: &mut [u8],
-)
+fn note_row(book: &[u8], k: u8, from: usize, n: usize, i: usize, w: Widths, table: &mut [u8])
     requires { ⌜ k ≤ 8 ⌝ }
     requires { ⌜ i < n ⌝ }
     requires { ⌜ n * w .entry ≤ length (now book) - from ⌝ }
