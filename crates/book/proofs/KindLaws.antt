@@ -94,9 +94,6 @@ module _ (k : ℕ) where
         let e : take (bodyWidth k) (drop 1 t ++ more) ≡ take (bodyWidth k) (drop 1 t) = take-append-le (bodyWidth k) (drop 1 t) more (omega (arith, length-drop 1 t)) in
         rw (d, e)
 
-    rest-longer : (t : Text) → bodyWidth k + 1 ≤ length t → drop (bodyWidth k + 1) (t ++ more) ≡ drop (bodyWidth k + 1) t ++ more
-    rest-longer t l = drop-append-le (bodyWidth k + 1) t more l
-
     first-in : (n : ℕ) (t : Text) → suc n * (bodyWidth k + 1) ≤ length t → (bodyWidth k + 1 ≤ length t) × (n * (bodyWidth k + 1) ≤ length (drop (bodyWidth k + 1) t))
     first-in n t l = (omega (arith, suc-mul n (bodyWidth k + 1)), omega (arith, suc-mul n (bodyWidth k + 1), length-drop (bodyWidth k + 1) t))
 
@@ -110,14 +107,14 @@ module _ (k : ℕ) where
           ap entryForm e ∙ r .1,
           ap (λ (x : Entry). orderOf c (codeOf x)) e ∙ r .2,
           subst (λ (x : Entry). Rows (codeOf x) (drop (bodyWidth k + 1) (t ++ more)) n) (sym e)
-              (subst (λ (u : Text). Rows (codeOf (entryOf k (drop 1 t))) u n) (sym (rest-longer t (y .0))) (rows-longer n _ (drop (bodyWidth k + 1) t) (r .3) (y .1))),
+              (subst (λ (u : Text). Rows (codeOf (entryOf k (drop 1 t))) u n) (sym (drop-append-le (bodyWidth k + 1) t more (y .0))) (rows-longer n _ (drop (bodyWidth k + 1) t) (r .3) (y .1))),
         )
 
     pub any-longer : (p : Entry → Bool) (n : ℕ) (t : Text) → n * (bodyWidth k + 1) ≤ length t → anyRow p (t ++ more) n ≡ anyRow p t n
     any-longer p zero t l = refl
     any-longer p (suc n) t l =
         let y = first-in n t l in
-        rw (entry-longer t (y .0), rest-longer t (y .0), any-longer p n (drop (bodyWidth k + 1) t) (y .1))
+        rw (entry-longer t (y .0), drop-append-le (bodyWidth k + 1) t more (y .0), any-longer p n (drop (bodyWidth k + 1) t) (y .1))
 
   -- a test that fails of all, or of all but one
   module _ (p : Entry → Bool) where

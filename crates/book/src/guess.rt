@@ -5,12 +5,11 @@ use crate::search::Widths;
 use crate::search::section_count;
 use crate::search::widths_of;
 ghost use mathlib.Core.Path.{_≡_};
-ghost use mathlib.Core.Bool.{true};
 ghost use mathlib.Core.List.{_++_};
 ghost use Prim.Native.Nat.{_<_, _≤_, _+_, _-_, _*_};
 ghost use lib.ListN.{length, drop, set, getD};
 ghost use Rattle.book.specs.Book.{firstWidth, secondWidth, bodyWidth, codeText};
-ghost use Rattle.book.specs.LookUp.{sectionStart, countIn, fits, mix, guess, noteRow, noteRows, noteKinds, guided};
+ghost use Rattle.book.specs.LookUp.{sectionStart, countIn, mix, guess, noteRow, noteRows, noteKinds, guided};
 
 // A byte, as a number to reckon with.
 fn value(b: u8) -> usize
@@ -54,8 +53,6 @@ fn byte_at(table: &[u8], at: usize) -> usize
 
 // Which entry of a kind the table behind a book names for a code, given as for find.
 pub(crate) fn guess(book: &[u8], sections: Sections, k: u8, a: &[u8], b: &[u8]) -> usize
-    requires { ⌜ k ≤ 8 ⌝ }
-    requires { ⌜ fits k (now a) (now b) ≡ true ⌝ }
     ensures { λ r. ⌜ r ≡ guess (now (book .entry)) sections k (codeText k (now (a .entry)) (now (b .entry))) ⌝ }
 {
     let end = sections.end;
@@ -79,7 +76,6 @@ fn put_byte(table: &mut [u8], at: usize, b: u8)
 
 // Notes entry i of those of these widths and of kind k that start at `from`, of which there are n.
 fn note_row(book: &[u8], k: u8, from: usize, n: usize, i: usize, w: Widths, table: &mut [u8])
-    requires { ⌜ k ≤ 8 ⌝ }
     requires { ⌜ i < n ⌝ }
     requires { ⌜ n * w .entry ≤ length (now book) - from ⌝ }
     requires { ⌜ w .first + w .second < w .entry ⌝ }
