@@ -121,11 +121,14 @@ module _ (c : Check) (d : (x : Lent) → Demand2 x (c x)) where
         let q : length (deletedBy c (zeros 38) callE ++ []) ≡ 0 = ap (λ (es : List Event). length (es ++ [])) e-deleted in
         omega arith
 
+    altered : first ≡ zeros 38 → ⊥
+    altered t =
+        let r : length (liveIn first) ≡ 0 = ap (λ (l : Text). length (liveIn l)) t ∙ ap length (computed .e-free) in
+        omega (arith, one-live)
+
     touches : NeverTouches c → ⊥
     unfolding first leaves callE
-    touches t =
-        let r : length (liveIn first) ≡ 0 = ap (λ (l : Text). length (liveIn l)) (t (lentE fileE (zeros 38))) ∙ ap length (computed .e-free) in
-        omega (arith, one-live)
+    touches t = altered (t (lentE fileE (zeros 38)))
 
     -- File E's event alone is live then
     only-e : (e : Event) → In e (liveIn first) → e ≡ eventOn "20220901"
@@ -183,10 +186,11 @@ module _ (c : Check) (d : (x : Lent) → Demand2 x (c x)) where
     d-deleted = ap (λ (b : Bool). cond b (deleted (lentE fileD first)) []) second-accepted ∙ computed .d-deletes
 
     goes-on : OnlyFirst c → ⊥
-    unfolding first
+    unfolding first callE
     goes-on f =
         let r = m .overall (zeros 38) (callE ∷ callD ∷ []) (computed .e-ledger) (computed .e-free) in
-        let same = ap (λ (l : Text). length (liveIn l)) (f (zeros 38) callE (callD ∷ [])) in
+        let e-accepted = is-accepted (lentE fileE (zeros 38)) 1 0 0 0 accepts-e in
+        let same = ap (λ (l : Text). length (liveIn l)) (f (zeros 38) callE (callD ∷ []) e-accepted altered) in
         let plus : length (addedBy c (zeros 38) callE ++ (addedBy c first callD ++ [])) ≡ 1 = ap₂ (λ (x y : List Event). length (x ++ (y ++ []))) e-added d-added in
         let minus : length (deletedBy c (zeros 38) callE ++ (deletedBy c first callD ++ [])) ≡ 1 = ap₂ (λ (x y : List Event). length (x ++ (y ++ []))) e-deleted d-deleted in
         omega (arith, one-live)

@@ -20,7 +20,7 @@ use Rattle.rules.specs.Claims.{Broken, Lists, AreaHolds}
 use Rattle.answers.specs.declared.Answer.{Answer}
 use Rattle.answers.specs.declared.Answer.the-variants.{Accepted, Date, Long, Book, Ledger, Shape as BadShape, Findings, Full}
 use Rattle.answers.specs.Answers.{Lent, Outcome, left, fileMost, settingOf, added, changed, deleted, notImmunized, Gives, numbersOf, isAccepted, isFindings}
-use Rattle.tuulveski.specs.Runs.{Check, Call, ledgerAfterRun, allAdded, allDeleted, lastAdded, isOf}
+use Rattle.tuulveski.specs.Runs.{Check, Call, lentTo, leaves, ledgerAfterRun, allAdded, allDeleted, lastAdded, isOf}
 
 -- DEMAND 1: "the check ends with one of the numbered answers .. A refused file leaves the ledger byte for byte as lent; the findings area
 -- holds only what document 01 says."
@@ -144,9 +144,12 @@ Constant check = (x y : Lent) → check x .answer ≡ check y .answer
 abbrev pub NeverTouches : Check → Type 0
 NeverTouches check = (x : Lent) → check x .ledger ≡ x .ledger
 
--- one that applies only the first file of a run
+-- one that applies only the first file of a run: once an accepted file has altered the ledger, no later one does
 abbrev pub OnlyFirst : Check → Type 0
-OnlyFirst check = (ledger : Text) (c : Call) (cs : List Call) → ledgerAfterRun check ledger (c ∷ cs) ≡ ledgerAfterRun check ledger (c ∷ [])
+OnlyFirst check = (ledger : Text) (c : Call) (cs : List Call)
+    → isAccepted (check (lentTo ledger c) .answer) ≡ true
+    → (leaves check ledger c ≡ ledger → ⊥)
+    → ledgerAfterRun check ledger (c ∷ cs) ≡ leaves check ledger c
 
 pub record UselessShutOut : Type 0 where
   pub refuses-all : (check : Check) → ((x : Lent) → Demand2 x (check x)) → RefusesAll check → ⊥
