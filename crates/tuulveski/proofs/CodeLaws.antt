@@ -1,20 +1,20 @@
--- The demands, of what the code answers and leaves: its contract says that this is the definition's.
+-- The demands, of calls whose promise says that what they answer and leave is the definition's, as the code's does.
 -- Assumes nothing.
-use mathlib.Core.Path.{_≡_, sym, subst, fun-ext}
-use Rattle.answers.specs.Answers.{Lent, Outcome, check, Gives}
-use Rattle.tuulveski.specs.Runs.{Check}
-use Rattle.tuulveski.specs.Demands.{Demand1, Demand2, LedgerAfter, Demands, CodeMeets}
+use mathlib.Core.Path.{_≡_, sym, subst}
+use Rattle.answers.specs.Answers.{Lent, Outcome, check}
+use Rattle.tuulveski.specs.Runs.{Promise}
+use Rattle.tuulveski.specs.Demands.{Demand1, Demand2, LedgerAfter, Demands, CodeGives, CodeMeets}
 use Rattle.tuulveski.proofs.FileLaws.{demand-1, demand-2, ledger-after}
-use Rattle.tuulveski.proofs.DemandLaws.{demands}
+use Rattle.tuulveski.proofs.RunLaws.{demand-3}
+
+pub meets : (promise : Promise) → ((x : Lent) (o : Outcome) → promise x o → o ≡ check x) → Demands promise
+meets promise same =
+    record {
+      demand-1 = λ x o k. subst (Demand1 x) (sym (same x o k)) (demand-1 x);
+      demand-2 = λ x o k. subst (Demand2 x) (sym (same x o k)) (demand-2 x);
+      ledger-after = λ x o k. subst (LedgerAfter x) (sym (same x o k)) (ledger-after x);
+      demand-3 = demand-3 promise same;
+    }
 
 pub code-meets : CodeMeets
-code-meets =
-    record {
-      demand-1 = λ x a ledger area e. subst (λ (o : Outcome). Demand1 x o) (sym e) (demand-1 x);
-      demand-2 = λ x a ledger area e. subst (λ (o : Outcome). Demand2 x o) (sym e) (demand-2 x);
-      ledger-after = λ x a ledger area e. subst (λ (o : Outcome). LedgerAfter x o) (sym e) (ledger-after x);
-      demands = λ code e. subst Demands (sym (same code e)) demands;
-    }
-  where
-    same : (code : Check) → ((x : Lent) → Gives x (code x .answer) (code x .ledger) (code x .area)) → code ≡ check
-    same code e = fun-ext e
+code-meets = meets CodeGives (λ x o e. e)

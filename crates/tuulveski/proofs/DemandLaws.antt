@@ -1,4 +1,4 @@
--- All that is demanded holds of the definition; no second outcome meets it; and the four useless checks do not.
+-- No second outcome meets what is demanded of a call, and the four useless checks do not meet what is demanded.
 -- Assumes nothing.
 use Prim.Native.Nat.{ℕ}
 use native.Mathlib.Omega.{arith}
@@ -16,21 +16,16 @@ use Rattle.ledger.specs.Ledger.{Event, ledgerOk, liveIn, isAmong}
 use Rattle.ledger.proofs.EventLaws.{among-in}
 use Rattle.ledger.proofs.HeldLaws.{one-ledger}
 use Rattle.rules.specs.Findings.{findingsOf}
-use Rattle.rules.specs.FileE.{bookE, fileE}
+use Rattle.rules.specs.FileE.{fileE}
 use Rattle.rules.proofs.AreaLaws.{one-area}
 use Rattle.answers.specs.declared.Answer.{Answer}
 use Rattle.answers.specs.declared.Answer.the-variants.{Accepted, Shape}
 use Rattle.answers.specs.Answers.{Lent, Outcome, settingOf, findings, added, changed, deleted, notImmunized, check, isAccepted, isFindings}
-use Rattle.tuulveski.specs.Runs.{Check, Call, leaves, addedBy, deletedBy}
+use Rattle.tuulveski.specs.Runs.{Step, Run, addedBy, deletedBy}
 use Rattle.tuulveski.specs.Examples.{fileD, zeros, eventOn, lentE}
-use Rattle.tuulveski.specs.Demands.{Demand1, Demand2, Demand3, LedgerAfter, Demands, OneOutcome, Due, Shapely, RefusesAll, Constant, NeverTouches, OnlyFirst, UselessShutOut}
+use Rattle.tuulveski.specs.Demands.{Demand1, Demand2, Demand3, LedgerAfter, OneOutcome, Due, Shapely, MeetsDemand3, Check, By, RefusesAll, Constant, NeverTouches, OnlyFirst, UselessShutOut}
 use Rattle.tuulveski.proofs.Cases.{settingE, computed}
 use Rattle.tuulveski.proofs.AnswerLaws.{given-due, lists-findings, none-unbroken}
-use Rattle.tuulveski.proofs.FileLaws.{demand-1, demand-2, ledger-after}
-use Rattle.tuulveski.proofs.RunLaws.{demand-3}
-
-pub demands : Demands check
-demands = record { demand-1 = demand-1; demand-2 = demand-2; ledger-after = ledger-after; demand-3 = demand-3 }
 
 -- No second outcome
 
@@ -92,33 +87,47 @@ module _ (c : Check) (d : (x : Lent) → Demand2 x (c x)) where
   not-constant r =
       clash (let h = accepts-e in let k = c-answer (lentE [] (zeros 38)) (Shape 1 7) (computed .empty-refused) in let m = r (lentE fileE (zeros 38)) (lentE [] (zeros 38)) in cc)
 
+  step : Lent → Step
+  step x = record { lent = x; left = c x }
+
+  accepted-adds : (x : Lent) → isAccepted (c x .answer) ≡ true → addedBy (step x) ≡ added x
+  unfolding addedBy step
+  accepted-adds x e = ap (λ (b : Bool). cond b (added x) []) e
+
+  accepted-deletes : (x : Lent) → isAccepted (c x .answer) ≡ true → deletedBy (step x) ≡ deleted x
+  unfolding deletedBy step
+  accepted-deletes x e = ap (λ (b : Bool). cond b (deleted x) []) e
+
   -- a run that starts with File E on a free slot
-  callE : Call
-  callE = record { today = 20220930; file = fileE; book = bookE; area = zeros 13 }
+  lent-e : Lent
+  lent-e = lentE fileE (zeros 38)
 
-  callD : Call
-  callD = record { today = 20220930; file = fileD; book = bookE; area = zeros 13 }
+  first : Text
+  first = c lent-e .ledger
 
-  e-added : addedBy c (zeros 38) callE ≡ eventOn "20220901" ∷ []
-  unfolding addedBy callE added
-  e-added =
-      ap (λ (b : Bool). cond b (added (lentE fileE (zeros 38))) []) (is-accepted (lentE fileE (zeros 38)) 1 0 0 0 accepts-e) ∙ computed .e-adds
+  e-accepted : isAccepted (c lent-e .answer) ≡ true
+  unfolding lent-e
+  e-accepted = is-accepted lent-e 1 0 0 0 accepts-e
 
-  e-deleted : deletedBy c (zeros 38) callE ≡ []
-  unfolding deletedBy callE deleted
-  e-deleted =
-      ap (λ (b : Bool). cond b (deleted (lentE fileE (zeros 38))) []) (is-accepted (lentE fileE (zeros 38)) 1 0 0 0 accepts-e) ∙ computed .e-deletes
+  e-added : addedBy (step lent-e) ≡ eventOn "20220901" ∷ []
+  unfolding lent-e added
+  e-added = accepted-adds lent-e e-accepted ∙ computed .e-adds
 
-  module _ (m : Demand3 c) where
-    first : Text
-    first = leaves c (zeros 38) callE
+  e-deleted : deletedBy (step lent-e) ≡ []
+  unfolding lent-e deleted
+  e-deleted = accepted-deletes lent-e e-accepted ∙ computed .e-deletes
+
+  module _ (m : MeetsDemand3 (By c)) where
+    e-run : Demand3 (zeros 38) (step lent-e ∷ [])
+    unfolding step lent-e
+    e-run = m (zeros 38) (step lent-e ∷ []) (refl, refl, tt)
 
     one-live : length (liveIn first) ≡ 1
-    unfolding first
+    unfolding first step
     one-live =
-        let r = m .overall (zeros 38) (callE ∷ []) (computed .e-ledger) (computed .e-free) in
-        let p : length (addedBy c (zeros 38) callE ++ []) ≡ 1 = ap (λ (es : List Event). length (es ++ [])) e-added in
-        let q : length (deletedBy c (zeros 38) callE ++ []) ≡ 0 = ap (λ (es : List Event). length (es ++ [])) e-deleted in
+        let r = e-run .overall (computed .e-ledger) (computed .e-free) in
+        let p : length (addedBy (step lent-e) ++ []) ≡ 1 = ap (λ (es : List Event). length (es ++ [])) e-added in
+        let q : length (deletedBy (step lent-e) ++ []) ≡ 0 = ap (λ (es : List Event). length (es ++ [])) e-deleted in
         omega arith
 
     altered : first ≡ zeros 38 → ⊥
@@ -127,16 +136,16 @@ module _ (c : Check) (d : (x : Lent) → Demand2 x (c x)) where
         omega (arith, one-live)
 
     touches : NeverTouches c → ⊥
-    unfolding first leaves callE
-    touches t = altered (t (lentE fileE (zeros 38)))
+    unfolding first lent-e
+    touches t = altered (t lent-e)
 
     -- File E's event alone is live then
     only-e : (e : Event) → In e (liveIn first) → e ≡ eventOn "20220901"
-    unfolding first
+    unfolding first step
     only-e e i =
-        let t = m .live-last e (zeros 38) (callE ∷ []) (computed .e-ledger) (computed .e-free) .0 i in
-        let plus = addedBy c (zeros 38) callE in
-        let minus = deletedBy c (zeros 38) callE in
+        let t = e-run .live-last e (computed .e-ledger) (computed .e-free) .0 i in
+        let plus = addedBy (step lent-e) in
+        let minus = deletedBy (step lent-e) in
         ⊎-elim
         (λ k. ⊎-elim (λ q. q) (λ n. absurd n) (subst (λ (es : List Event). In e es) e-added (among-in plus e k)))
         (λ k. absurd (both (not (isAmong minus e)) false k .1))
@@ -151,8 +160,8 @@ module _ (c : Check) (d : (x : Lent) → Demand2 x (c x)) where
         go (e ∷ f ∷ es) n h = absurd (omega arith)
 
     first-ok : ledgerOk first ≡ true
-    unfolding first
-    first-ok = m .in-form (zeros 38) (callE ∷ []) (computed .e-ledger)
+    unfolding first step
+    first-ok = e-run .in-form (computed .e-ledger)
 
     second : Lent
     second = lentE fileD first
@@ -177,22 +186,23 @@ module _ (c : Check) (d : (x : Lent) → Demand2 x (c x)) where
     second-accepted : isAccepted (c second .answer) ≡ true
     second-accepted = is-accepted second 0 0 1 0 (d second .exactly (Accepted 0 0 1 0) .1 second-due)
 
-    d-added : addedBy c first callD ≡ []
-    unfolding addedBy callD added second
-    d-added = ap (λ (b : Bool). cond b (added (lentE fileD first)) []) second-accepted ∙ computed .d-adds
+    d-added : addedBy (step second) ≡ []
+    unfolding added second
+    d-added = accepted-adds second second-accepted ∙ computed .d-adds
 
-    d-deleted : deletedBy c first callD ≡ eventOn "20220901" ∷ []
-    unfolding deletedBy callD deleted second
-    d-deleted = ap (λ (b : Bool). cond b (deleted (lentE fileD first)) []) second-accepted ∙ computed .d-deletes
+    d-deleted : deletedBy (step second) ≡ eventOn "20220901" ∷ []
+    unfolding deleted second
+    d-deleted = accepted-deletes second second-accepted ∙ computed .d-deletes
 
     goes-on : OnlyFirst c → ⊥
-    unfolding first callE
+    unfolding first second step lent-e
     goes-on f =
-        let r = m .overall (zeros 38) (callE ∷ callD ∷ []) (computed .e-ledger) (computed .e-free) in
-        let e-accepted = is-accepted (lentE fileE (zeros 38)) 1 0 0 0 accepts-e in
-        let same = ap (λ (l : Text). length (liveIn l)) (f (zeros 38) callE (callD ∷ []) e-accepted altered) in
-        let plus : length (addedBy c (zeros 38) callE ++ (addedBy c first callD ++ [])) ≡ 1 = ap₂ (λ (x y : List Event). length (x ++ (y ++ []))) e-added d-added in
-        let minus : length (deletedBy c (zeros 38) callE ++ (deletedBy c first callD ++ [])) ≡ 1 = ap₂ (λ (x y : List Event). length (x ++ (y ++ []))) e-deleted d-deleted in
+        let ss : List Step = step second ∷ [] in
+        let run : Run (By c) (zeros 38) (step lent-e ∷ ss) = (refl, refl, (refl, refl, tt)) in
+        let r = m (zeros 38) (step lent-e ∷ ss) run .overall (computed .e-ledger) (computed .e-free) in
+        let same = ap (λ (l : Text). length (liveIn l)) (f (zeros 38) (step lent-e) ss run e-accepted altered) in
+        let plus : length (addedBy (step lent-e) ++ (addedBy (step second) ++ [])) ≡ 1 = ap₂ (λ (x y : List Event). length (x ++ (y ++ []))) e-added d-added in
+        let minus : length (deletedBy (step lent-e) ++ (deletedBy (step second) ++ [])) ≡ 1 = ap₂ (λ (x y : List Event). length (x ++ (y ++ []))) e-deleted d-deleted in
         omega (arith, one-live)
 
 pub useless-shut-out : UselessShutOut

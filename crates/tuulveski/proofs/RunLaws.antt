@@ -13,9 +13,9 @@ use Rattle.house.proofs.Facts.{both, both-of, either, left-of, right-of, of-tru
 use Rattle.house.proofs.Members.{count-append}
 use Rattle.ledger.specs.Ledger.{Event, ledgerOk, liveIn, isAmong}
 use Rattle.ledger.proofs.EventLaws.{among-in, in-among, every, count-every}
-use Rattle.answers.specs.Answers.{Lent, check, added, deleted, isAccepted}
-use Rattle.tuulveski.specs.Runs.{Call, lentTo, leaves, addedBy, deletedBy, ledgerAfterRun, allAdded, allDeleted, lastAdded, isOf}
-use Rattle.tuulveski.specs.Demands.{Demand3}
+use Rattle.answers.specs.Answers.{Lent, Outcome, check, added, deleted, isAccepted}
+use Rattle.tuulveski.specs.Runs.{Step, Promise, Run, ledgerAfterRun, addedBy, deletedBy, allAdded, allDeleted, lastAdded, isOf}
+use Rattle.tuulveski.specs.Demands.{MeetsDemand3}
 use Rattle.tuulveski.proofs.FileLaws.{accepts, accepted-ledger, refused-ledger, after-ok, after-counts, after-members}
 
 -- One call
@@ -43,96 +43,109 @@ module _ (x : Lent) where
   ok-if true e ok = subst (λ (t : Text). T (ledgerOk t)) (sym (accepted-ledger x e)) (after-ok x (accepts x e))
   ok-if false e ok = subst (λ (t : Text). T (ledgerOk t)) (sym (refused-ledger x e)) ok
 
-module _ (ledger : Text) (c : Call) where
-  moves : Moves (liveIn ledger) (liveIn (leaves check ledger c)) (addedBy check ledger c) (deletedBy check ledger c)
-  unfolding leaves addedBy deletedBy
-  moves = moves-if (lentTo ledger c) (isAccepted (check (lentTo ledger c) .answer)) refl
+-- a step of a run that leaves what the definition leaves
+module _ (ledger : Text) (s : Step) (from : s .lent .ledger ≡ ledger) (e : s .left ≡ check (s .lent)) where
+  moves : Moves (liveIn ledger) (liveIn (s .left .ledger)) (addedBy s) (deletedBy s)
+  unfolding addedBy deletedBy
+  moves =
+      let x = s .lent in
+      subst (λ (t : Text). Moves (liveIn t) (liveIn (s .left .ledger)) (addedBy s) (deletedBy s)) from
+      (subst
+      (λ (o : Outcome). Moves (liveIn (x .ledger)) (liveIn (o .ledger)) (cond (isAccepted (o .answer)) (added x) []) (cond (isAccepted (o .answer)) (deleted x) []))
+      (sym e)
+      (moves-if x (isAccepted (check x .answer)) refl))
 
-  leaves-ok : T (ledgerOk ledger) → T (ledgerOk (leaves check ledger c))
-  unfolding leaves
-  leaves-ok ok = ok-if (lentTo ledger c) (isAccepted (check (lentTo ledger c) .answer)) refl ok
+  leaves-ok : T (ledgerOk ledger) → T (ledgerOk (s .left .ledger))
+  leaves-ok ok =
+      subst (λ (o : Outcome). T (ledgerOk (o .ledger))) (sym e)
+      (ok-if (s .lent) (isAccepted (check (s .lent) .answer)) refl (subst (λ (t : Text). T (ledgerOk t)) (sym from) ok))
+
+  -- after the step, an event is live if the step added it, or if it was live and the step did not delete it
+  step-live : (v : Event) → isAmong (liveIn (s .left .ledger)) v ≡ (isAmong (addedBy s) v || (not (isAmong (deletedBy s) v) && isAmong (liveIn ledger) v))
+  step-live v = bool-ext (isAmong after v) (isAmong plus v || (not (isAmong minus v) && isAmong live v)) there back
+    where
+      live : List Event
+      live = liveIn ledger
+
+      after : List Event
+      after = liveIn (s .left .ledger)
+
+      plus : List Event
+      plus = addedBy s
+
+      minus : List Event
+      minus = deletedBy s
+
+      there : T (isAmong after v) → T (isAmong plus v || (not (isAmong minus v) && isAmong live v))
+      there t =
+          ⊎-elim (λ m. left-of (isAmong plus v) (not (isAmong minus v) && isAmong live v) (in-among plus v m))
+          (λ m.
+          right-of (isAmong plus v) (not (isAmong minus v) && isAmong live v)
+          (both-of (not (isAmong minus v)) (isAmong live v) (not-T (isAmong minus v) (λ k. m .1 (among-in minus v k))) (in-among live v (m .0))))
+          (moves .members v .0 (among-in after v t))
+
+      back : T (isAmong plus v || (not (isAmong minus v) && isAmong live v)) → T (isAmong after v)
+      back t =
+          in-among after v
+          (moves .members v .1
+          (⊎-elim (λ k. inl (among-in plus v k))
+          (λ k.
+          let p = both (not (isAmong minus v)) (isAmong live v) k in
+          inr (among-in live v (p .1), λ m. T-not (isAmong minus v) (p .0) (in-among minus v m)))
+          (either (isAmong plus v) (not (isAmong minus v) && isAmong live v) t)))
 
 -- A run
 
-run-ok : (ledger : Text) (cs : List Call) → T (ledgerOk ledger) → T (ledgerOk (ledgerAfterRun check ledger cs))
-run-ok ledger [] ok = ok
-run-ok ledger (c ∷ cs) ok = run-ok (leaves check ledger c) cs (leaves-ok ledger c ok)
+-- of calls that leave what the definition leaves
+module _ (promise : Promise) (same : (x : Lent) (o : Outcome) → promise x o → o ≡ check x) where
+  run-ok : (ledger : Text) (ss : List Step) → Run promise ledger ss → T (ledgerOk ledger) → T (ledgerOk (ledgerAfterRun ledger ss))
+  run-ok ledger [] r ok = ok
+  run-ok ledger (s ∷ ss) r ok = run-ok (s .left .ledger) ss (r .2) (leaves-ok ledger s (r .0) (same (s .lent) (s .left) (r .1)) ok)
 
-module _ (p : Event → Bool) where
-  run-counts : (ledger : Text) (cs : List Call)
-      → count p (liveIn (ledgerAfterRun check ledger cs)) + count p (allDeleted check ledger cs) ≡ count p (liveIn ledger) + count p (allAdded check ledger cs)
-  run-counts ledger [] = refl
-  run-counts ledger (c ∷ cs) =
-      omega (
-        arith,
-        run-counts (leaves check ledger c) cs,
-        moves ledger c .counts p,
-        count-append p (addedBy check ledger c) (allAdded check (leaves check ledger c) cs),
-        count-append p (deletedBy check ledger c) (allDeleted check (leaves check ledger c) cs),
-      )
+  module _ (p : Event → Bool) where
+    run-counts : (ledger : Text) (ss : List Step) → Run promise ledger ss
+        → count p (liveIn (ledgerAfterRun ledger ss)) + count p (allDeleted ss) ≡ count p (liveIn ledger) + count p (allAdded ss)
+    run-counts ledger [] r = refl
+    run-counts ledger (s ∷ ss) r =
+        omega (
+          arith,
+          run-counts (s .left .ledger) ss (r .2),
+          moves ledger s (r .0) (same (s .lent) (s .left) (r .1)) .counts p,
+          count-append p (addedBy s) (allAdded ss),
+          count-append p (deletedBy s) (allDeleted ss),
+        )
 
--- after a call, an event is live if the call added it, or if it was live and the call did not delete it
-call-live : (ledger : Text) (c : Call) (e : Event)
-    → isAmong (liveIn (leaves check ledger c)) e ≡ (isAmong (addedBy check ledger c) e || (not (isAmong (deletedBy check ledger c) e) && isAmong (liveIn ledger) e))
-call-live ledger c e = bool-ext (isAmong after e) (isAmong plus e || (not (isAmong minus e) && isAmong live e)) there back
-  where
-    live : List Event
-    live = liveIn ledger
+  run-live : (v : Event) (ledger : Text) (ss : List Step) → Run promise ledger ss
+      → isAmong (liveIn (ledgerAfterRun ledger ss)) v ≡ lastAdded v (isAmong (liveIn ledger) v) ss
+  run-live v ledger [] r = refl
+  run-live v ledger (s ∷ ss) r =
+      run-live v (s .left .ledger) ss (r .2) ∙ ap (λ (b : Bool). lastAdded v b ss) (step-live ledger s (r .0) (same (s .lent) (s .left) (r .1)) v)
 
-    after : List Event
-    after = liveIn (leaves check ledger c)
-
-    plus : List Event
-    plus = addedBy check ledger c
-
-    minus : List Event
-    minus = deletedBy check ledger c
-
-    there : T (isAmong after e) → T (isAmong plus e || (not (isAmong minus e) && isAmong live e))
-    there t =
-        ⊎-elim (λ m. left-of (isAmong plus e) (not (isAmong minus e) && isAmong live e) (in-among plus e m))
-        (λ m.
-        right-of (isAmong plus e) (not (isAmong minus e) && isAmong live e)
-        (both-of (not (isAmong minus e)) (isAmong live e) (not-T (isAmong minus e) (λ k. m .1 (among-in minus e k))) (in-among live e (m .0))))
-        (moves ledger c .members e .0 (among-in after e t))
-
-    back : T (isAmong plus e || (not (isAmong minus e) && isAmong live e)) → T (isAmong after e)
-    back t =
-        in-among after e
-        (moves ledger c .members e .1
-        (⊎-elim (λ k. inl (among-in plus e k))
-        (λ k.
-        let p = both (not (isAmong minus e)) (isAmong live e) k in
-        inr (among-in live e (p .1), λ m. T-not (isAmong minus e) (p .0) (in-among minus e m)))
-        (either (isAmong plus e) (not (isAmong minus e) && isAmong live e) t)))
-
-run-live : (e : Event) (ledger : Text) (cs : List Call) → isAmong (liveIn (ledgerAfterRun check ledger cs)) e ≡ lastAdded check e (isAmong (liveIn ledger) e) ledger cs
-run-live e ledger [] = refl
-run-live e ledger (c ∷ cs) =
-    run-live e (leaves check ledger c) cs ∙ ap (λ (b : Bool). lastAdded check e b (leaves check ledger c) cs) (call-live ledger c e)
-
--- DEMAND 3
-pub demand-3 : Demand3 check
-unfolding isAmong
-demand-3 =
-    record {
-      in-form = λ ledger cs ok. is-true (ledgerOk (ledgerAfterRun check ledger cs)) (run-ok ledger cs (of-true (ledgerOk ledger) ok));
-      overall =
-          λ ledger cs ok none.
-          omega (
-            arith,
-            run-counts every ledger cs,
-            count-every (liveIn (ledgerAfterRun check ledger cs)),
-            count-every (allDeleted check ledger cs),
-            count-every (allAdded check ledger cs),
-            ap (count every) none,
-          );
-      each-patient = λ uli ledger cs ok none. omega (arith, run-counts (isOf uli) ledger cs, ap (count (isOf uli)) none);
-      live-last =
-          λ e ledger cs ok none.
-          let r : isAmong (liveIn (ledgerAfterRun check ledger cs)) e ≡ lastAdded check e false ledger cs =
-          run-live e ledger cs ∙ ap (λ (es : List Event). lastAdded check e (isAmong es e) ledger cs) none in (
-            (λ m. subst T r (in-among (liveIn (ledgerAfterRun check ledger cs)) e m)),
-            (λ t. among-in (liveIn (ledgerAfterRun check ledger cs)) e (subst T (sym r) t)),
-          );
-    }
+  -- DEMAND 3
+  pub demand-3 : MeetsDemand3 promise
+  unfolding isAmong
+  demand-3 ledger ss r =
+      record {
+        in-form = λ ok. is-true (ledgerOk after) (run-ok ledger ss r (of-true (ledgerOk ledger) ok));
+        overall =
+            λ ok none.
+            omega (
+              arith,
+              run-counts every ledger ss r,
+              count-every (liveIn after),
+              count-every (allDeleted ss),
+              count-every (allAdded ss),
+              ap (count every) none,
+            );
+        each-patient = λ uli ok none. omega (arith, run-counts (isOf uli) ledger ss r, ap (count (isOf uli)) none);
+        live-last =
+            λ v ok none.
+            let q : isAmong (liveIn after) v ≡ lastAdded v false ss =
+            run-live v ledger ss r ∙ ap (λ (es : List Event). lastAdded v (isAmong es v) ss) none in (
+              (λ m. subst T q (in-among (liveIn after) v m)),
+              (λ t. among-in (liveIn after) v (subst T (sym q) t)),
+            );
+      }
+    where
+      after : Text
+      after = ledgerAfterRun ledger ss

@@ -1,5 +1,5 @@
--- The three demands, and what a check that is of no use would break: statements, over any check. The proofs stand in proofs/. What is
--- quoted here is from the demands (docs/PROMISES.md), but for the ledger's form and the useless checks, which are document 01's.
+-- The three demands, of a call and of a run of calls, and what a check that is of no use would break: statements. The proofs stand in
+-- proofs/. What is quoted here is from the demands (docs/PROMISES.md), but for the ledger's form and the useless checks, which are document 01's.
 -- Assumes nothing.
 use Prim.Native.Nat.{_+_, _≤_, _<_}
 use mathlib.Core.Path.{_≡_}
@@ -19,8 +19,8 @@ use Rattle.rules.specs.Findings.{Finding}
 use Rattle.rules.specs.Claims.{Broken, Lists, AreaHolds}
 use Rattle.answers.specs.declared.Answer.{Answer}
 use Rattle.answers.specs.declared.Answer.the-variants.{Accepted, Date, Long, Book, Ledger, Shape as BadShape, Findings, Full}
-use Rattle.answers.specs.Answers.{Lent, Outcome, left, fileMost, settingOf, added, changed, deleted, notImmunized, Gives, numbersOf, isAccepted, isFindings}
-use Rattle.tuulveski.specs.Runs.{Check, Call, lentTo, leaves, ledgerAfterRun, allAdded, allDeleted, lastAdded, isOf}
+use Rattle.answers.specs.Answers.{Lent, Outcome, fileMost, settingOf, added, changed, deleted, notImmunized, Gives, numbersOf, isAccepted, isFindings}
+use Rattle.tuulveski.specs.Runs.{Step, Promise, Run, ledgerAfterRun, allAdded, allDeleted, lastAdded, isOf}
 
 -- DEMAND 1: "the check ends with one of the numbered answers .. A refused file leaves the ledger byte for byte as lent; the findings area
 -- holds only what document 01 says."
@@ -102,22 +102,24 @@ pub record LedgerAfter (x : Lent) (o : Outcome) : Type 0 where
 
 -- DEMAND 3: "Over any run of files, each handed the ledger the one before left, live events number those added in accepted files less those
 -- deleted in accepted files, overall and for each patient; an event is live exactly if the last accepted file to add or delete it added it."
--- From a well-formed ledger of any size with no live event, refused calls among them.
-pub record Demand3 (check : Check) : Type 0 where
-  pub in-form : (ledger : Text) (cs : List Call) → ledgerOk ledger ≡ true → ledgerOk (ledgerAfterRun check ledger cs) ≡ true
-  pub overall : (ledger : Text) (cs : List Call) → ledgerOk ledger ≡ true → liveIn ledger ≡ []
-      → length (liveIn (ledgerAfterRun check ledger cs)) + length (allDeleted check ledger cs) ≡ length (allAdded check ledger cs)
-  pub each-patient : (uli : Text) (ledger : Text) (cs : List Call) → ledgerOk ledger ≡ true → liveIn ledger ≡ []
-      → count (isOf uli) (liveIn (ledgerAfterRun check ledger cs)) + count (isOf uli) (allDeleted check ledger cs) ≡ count (isOf uli) (allAdded check ledger cs)
-  pub live-last : (e : Event) (ledger : Text) (cs : List Call) → ledgerOk ledger ≡ true → liveIn ledger ≡ []
-      → In e (liveIn (ledgerAfterRun check ledger cs)) ↔ T (lastAdded check e false ledger cs)
+-- Of a run from a well-formed ledger of any size with no live event, refused calls among them.
+pub record Demand3 (ledger : Text) (ss : List Step) : Type 0 where
+  pub in-form : ledgerOk ledger ≡ true → ledgerOk (ledgerAfterRun ledger ss) ≡ true
+  pub overall : ledgerOk ledger ≡ true → liveIn ledger ≡ [] → length (liveIn (ledgerAfterRun ledger ss)) + length (allDeleted ss) ≡ length (allAdded ss)
+  pub each-patient : (uli : Text) → ledgerOk ledger ≡ true → liveIn ledger ≡ []
+      → count (isOf uli) (liveIn (ledgerAfterRun ledger ss)) + count (isOf uli) (allDeleted ss) ≡ count (isOf uli) (allAdded ss)
+  pub live-last : (e : Event) → ledgerOk ledger ≡ true → liveIn ledger ≡ [] → In e (liveIn (ledgerAfterRun ledger ss)) ↔ T (lastAdded e false ss)
 
--- What is demanded of a check
-pub record Demands (check : Check) : Type 0 where
-  pub demand-1 : (x : Lent) → Demand1 x (check x)
-  pub demand-2 : (x : Lent) → Demand2 x (check x)
-  pub ledger-after : (x : Lent) → LedgerAfter x (check x)
-  pub demand-3 : Demand3 check
+-- every run of calls that keep the promise is such
+abbrev pub MeetsDemand3 : Promise → Type 0
+MeetsDemand3 promise = (ledger : Text) (ss : List Step) → Run promise ledger ss → Demand3 ledger ss
+
+-- What is demanded of calls that keep a promise
+pub record Demands (promise : Promise) : Type 0 where
+  pub demand-1 : (x : Lent) (o : Outcome) → promise x o → Demand1 x o
+  pub demand-2 : (x : Lent) (o : Outcome) → promise x o → Demand2 x o
+  pub ledger-after : (x : Lent) (o : Outcome) → promise x o → LedgerAfter x o
+  pub demand-3 : MeetsDemand3 promise
 
 -- No second answer, ledger or findings area meets what is demanded of one call
 abbrev pub OneOutcome : Type 0
@@ -131,6 +133,14 @@ OneOutcome = (x : Lent) (o p : Outcome)
     → o ≡ p
 
 -- "Four useless checks are shut out"
+
+-- anything that answers as the check does
+abbrev pub Check : Type 0
+Check = Lent → Outcome
+
+-- that its calls are answered by it
+abbrev pub By : Check → Promise
+By check x o = o ≡ check x
 
 -- one that refuses everything
 abbrev pub RefusesAll : Check → Type 0
@@ -146,21 +156,21 @@ NeverTouches check = (x : Lent) → check x .ledger ≡ x .ledger
 
 -- one that applies only the first file of a run: once an accepted file has altered the ledger, no later one does
 abbrev pub OnlyFirst : Check → Type 0
-OnlyFirst check = (ledger : Text) (c : Call) (cs : List Call)
-    → isAccepted (check (lentTo ledger c) .answer) ≡ true
-    → (leaves check ledger c ≡ ledger → ⊥)
-    → ledgerAfterRun check ledger (c ∷ cs) ≡ leaves check ledger c
+OnlyFirst check = (ledger : Text) (s : Step) (ss : List Step)
+    → Run (By check) ledger (s ∷ ss)
+    → isAccepted (s .left .answer) ≡ true
+    → (s .left .ledger ≡ ledger → ⊥)
+    → ledgerAfterRun ledger (s ∷ ss) ≡ s .left .ledger
 
 pub record UselessShutOut : Type 0 where
   pub refuses-all : (check : Check) → ((x : Lent) → Demand2 x (check x)) → RefusesAll check → ⊥
   pub constant : (check : Check) → ((x : Lent) → Demand2 x (check x)) → Constant check → ⊥
-  pub never-touches : (check : Check) → ((x : Lent) → Demand2 x (check x)) → Demand3 check → NeverTouches check → ⊥
-  pub only-first : (check : Check) → ((x : Lent) → Demand2 x (check x)) → Demand3 check → OnlyFirst check → ⊥
+  pub never-touches : (check : Check) → ((x : Lent) → Demand2 x (check x)) → MeetsDemand3 (By check) → NeverTouches check → ⊥
+  pub only-first : (check : Check) → ((x : Lent) → Demand2 x (check x)) → MeetsDemand3 (By check) → OnlyFirst check → ⊥
 
--- THE CODE: what is demanded, of what a function answers and leaves that promises what `check` promises
-pub record CodeMeets : Type 0 where
-  pub demand-1 : (x : Lent) (a : Answer) (ledger area : Text) → Gives x a ledger area → Demand1 x (left a ledger area)
-  pub demand-2 : (x : Lent) (a : Answer) (ledger area : Text) → Gives x a ledger area → Demand2 x (left a ledger area)
-  pub ledger-after : (x : Lent) (a : Answer) (ledger area : Text) → Gives x a ledger area → LedgerAfter x (left a ledger area)
-  -- and of its calls in any run
-  pub demands : (code : Check) → ((x : Lent) → Gives x (code x .answer) (code x .ledger) (code x .area)) → Demands code
+-- THE CODE: what the function `check` promises of a call
+abbrev pub CodeGives : Promise
+CodeGives x o = Gives x (o .answer) (o .ledger) (o .area)
+
+abbrev pub CodeMeets : Type 0
+CodeMeets = Demands CodeGives

@@ -1,6 +1,6 @@
--- Runs of calls of a check over one ledger, each handed the ledger that the one before left.
+-- Runs of calls over one ledger, each handed the ledger that the one before left.
 -- Assumes nothing.
-use Prim.Native.Nat.{ℕ}
+use mathlib.Core.Path.{_≡_}
 use mathlib.Core.Bool.{Bool, not, cond, _&&_, _||_}
 use mathlib.Core.List.{List, [], _∷_, _++_}
 use lib.ListN.{take}
@@ -8,51 +8,45 @@ use Rattle.house.specs.Text.{Text, same}
 use Rattle.ledger.specs.Ledger.{Event, isAmong}
 use Rattle.answers.specs.Answers.{Lent, Outcome, isAccepted, added, deleted}
 
--- anything that answers as the check does
-abbrev pub Check : Type 0
-Check = Lent → Outcome
+-- one call: what it was lent, and what it answered and left
+pub record Step : Type 0 where
+  pub lent : Lent
+  pub left : Outcome
 
--- one call, but for the ledger, which the run hands on
-pub record Call : Type 0 where
-  pub today : ℕ
-  pub file : Text
-  pub book : Text
-  pub area : Text
+-- what is promised of one call
+abbrev pub Promise : Type 1
+Promise = Lent → Outcome → Type 0
 
-abbrev pub lentTo : Text → Call → Lent
-lentTo ledger c = record { today = c .today; file = c .file; book = c .book; ledger = ledger; area = c .area }
+-- a run from a ledger: each call is handed the ledger that the one before left, and keeps the promise
+abbrev pub Run : Promise → Text → List Step → Type 0
+Run promise ledger [] = Unit {0}
+Run promise ledger (s ∷ ss) = (s .lent .ledger ≡ ledger) × promise (s .lent) (s .left) × Run promise (s .left .ledger) ss
 
-module _ (check : Check) where
-  -- the ledger that a call leaves
-  unfoldable pub leaves : Text → Call → Text
-  leaves ledger c = check (lentTo ledger c) .ledger
+-- the ledger after a run
+abbrev pub ledgerAfterRun : Text → List Step → Text
+ledgerAfterRun ledger [] = ledger
+ledgerAfterRun ledger (s ∷ ss) = ledgerAfterRun (s .left .ledger) ss
 
-  -- the events that a call adds and deletes: none where its file is not accepted
-  unfoldable pub addedBy : Text → Call → List Event
-  addedBy ledger c = cond (isAccepted (check (lentTo ledger c) .answer)) (added (lentTo ledger c)) []
+-- the events that a call adds and deletes: none where its file is not accepted
+unfoldable pub addedBy : Step → List Event
+addedBy s = cond (isAccepted (s .left .answer)) (added (s .lent)) []
 
-  unfoldable pub deletedBy : Text → Call → List Event
-  deletedBy ledger c = cond (isAccepted (check (lentTo ledger c) .answer)) (deleted (lentTo ledger c)) []
+unfoldable pub deletedBy : Step → List Event
+deletedBy s = cond (isAccepted (s .left .answer)) (deleted (s .lent)) []
 
-  -- the ledger after a run
-  abbrev pub ledgerAfterRun : Text → List Call → Text
-  ledgerAfterRun ledger [] = ledger
-  ledgerAfterRun ledger (c ∷ cs) = ledgerAfterRun (leaves ledger c) cs
+-- the events that the accepted files of a run add, and delete, as often as they do
+abbrev pub allAdded : List Step → List Event
+allAdded [] = []
+allAdded (s ∷ ss) = addedBy s ++ allAdded ss
 
-  -- the events that the accepted files of a run add, and delete, as often as they do
-  abbrev pub allAdded : Text → List Call → List Event
-  allAdded ledger [] = []
-  allAdded ledger (c ∷ cs) = addedBy ledger c ++ allAdded (leaves ledger c) cs
+abbrev pub allDeleted : List Step → List Event
+allDeleted [] = []
+allDeleted (s ∷ ss) = deletedBy s ++ allDeleted ss
 
-  abbrev pub allDeleted : Text → List Call → List Event
-  allDeleted ledger [] = []
-  allDeleted ledger (c ∷ cs) = deletedBy ledger c ++ allDeleted (leaves ledger c) cs
-
-  -- the last accepted file of a run to add or delete the event added it; where none did, as it was before the run
-  abbrev pub lastAdded : Event → Bool → Text → List Call → Bool
-  lastAdded e was ledger [] = was
-  lastAdded e was ledger (c ∷ cs) =
-      lastAdded e (isAmong (addedBy ledger c) e || (not (isAmong (deletedBy ledger c) e) && was)) (leaves ledger c) cs
+-- the last accepted file of a run to add or delete the event added it; where none did, as it was before the run
+abbrev pub lastAdded : Event → Bool → List Step → Bool
+lastAdded e was [] = was
+lastAdded e was (s ∷ ss) = lastAdded e (isAmong (addedBy s) e || (not (isAmong (deletedBy s) e) && was)) ss
 
 -- the event is of the patient with this ULI
 unfoldable pub isOf : Text → Event → Bool
