@@ -20,7 +20,7 @@ use Rattle.rules.specs.FileE.{fileE}
 use Rattle.rules.proofs.AreaLaws.{one-area}
 use Rattle.answers.specs.declared.Answer.{Answer}
 use Rattle.answers.specs.declared.Answer.the-variants.{Accepted, Shape}
-use Rattle.answers.specs.Answers.{Lent, Outcome, settingOf, findings, added, changed, deleted, notImmunized, check, isAccepted, isFindings}
+use Rattle.answers.specs.Answers.{Lent, Outcome, left, settingOf, findings, added, changed, deleted, notImmunized, check, isAccepted, isFindings}
 use Rattle.tuulveski.specs.Runs.{Step, Run, addedBy, deletedBy}
 use Rattle.tuulveski.specs.Examples.{fileD, zeros, eventOn, lentE}
 use Rattle.tuulveski.specs.Demands.{Demand1, Demand2, Demand3, LedgerAfter, OneOutcome, Due, Shapely, MeetsDemand3, Check, By, RefusesAll, Constant, NeverTouches, OnlyFirst, UselessShutOut}
@@ -32,6 +32,10 @@ use Rattle.tuulveski.proofs.AnswerLaws.{given-due, lists-findings, none
 -- an answer that meets demand 2 is the definition's
 pub one-answer : (x : Lent) (o : Outcome) → Demand2 x o → o .answer ≡ check x .answer
 one-answer x o d = d .exactly (check x .answer) .1 (given-due x)
+
+-- answer, ledger and area are the whole of an outcome
+pub same-outcome : (o p : Outcome) → o .answer ≡ p .answer → o .ledger ≡ p .ledger → o .area ≡ p .area → o ≡ p
+same-outcome o p a l r = let q : left (o .answer) (o .ledger) (o .area) ≡ left (p .answer) (p .ledger) (p .area) = cc in q
 
 module _ (x : Lent) (o p : Outcome) (d1 : Demand1 x o) (d2 : Demand2 x o) (la : LedgerAfter x o) (e1 : Demand1 x p) (e2 : Demand2 x p) (lb : LedgerAfter x p) where
   same-answer : o .answer ≡ p .answer
@@ -60,12 +64,7 @@ module _ (x : Lent) (o p : Outcome) (d1 : Demand1 x o) (d2 : Demand2 x o) (la : 
 
 pub one-outcome : OneOutcome
 one-outcome x o p d1 d2 la e1 e2 lb =
-    let a = same-answer x o p d1 d2 la e1 e2 lb in
-    let l = same-ledger x o p d1 d2 la e1 e2 lb in
-    let r = same-area x o p d1 d2 la e1 e2 lb in
-    ap (λ (z : Answer). record { answer = z; ledger = o .ledger; area = o .area }) a
-    ∙ ap (λ (z : Text). record { answer = p .answer; ledger = z; area = o .area }) l
-    ∙ ap (λ (z : Text). record { answer = p .answer; ledger = p .ledger; area = z }) r
+    same-outcome o p (same-answer x o p d1 d2 la e1 e2 lb) (same-ledger x o p d1 d2 la e1 e2 lb) (same-area x o p d1 d2 la e1 e2 lb)
 
 -- The four useless checks
 

@@ -4,6 +4,7 @@ pub mod FileLaws
 pub mod RunLaws
 pub mod DemandLaws
 pub mod CodeLaws
+pub mod CDemandLaws
 pub mod NumberLaws
 -- What the functions' own needs ask
 mod InterfaceNeeds

@@ -3,3 +3,4 @@ pub mod Inside
 pub mod Runs
 pub mod Examples
 pub mod Demands
+pub mod CDemands
