@@ -98,10 +98,6 @@ module _ (ledger : Text) (s : Step) (from : s .lent .ledger ≡ ledger) (e : s .
 
 -- of calls that leave what the definition leaves
 module _ (promise : Promise) (same : (x : Lent) (o : Outcome) → promise x o → o ≡ check x) where
-  run-ok : (ledger : Text) (ss : List Step) → Run promise ledger ss → T (ledgerOk ledger) → T (ledgerOk (ledgerAfterRun ledger ss))
-  run-ok ledger [] r ok = ok
-  run-ok ledger (s ∷ ss) r ok = run-ok (s .left .ledger) ss (r .2) (leaves-ok ledger s (r .0) (same (s .lent) (s .left) (r .1)) ok)
-
   module _ (p : Event → Bool) where
     run-counts : (ledger : Text) (ss : List Step) → Run promise ledger ss
         → count p (liveIn (ledgerAfterRun ledger ss)) + count p (allDeleted ss) ≡ count p (liveIn ledger) + count p (allAdded ss)
@@ -120,6 +116,10 @@ module _ (promise : Promise) (same : (x : Lent) (o : Outcome) → promise x o �
   run-live v ledger [] r = refl
   run-live v ledger (s ∷ ss) r =
       run-live v (s .left .ledger) ss (r .2) ∙ ap (λ (b : Bool). lastAdded v b ss) (step-live ledger s (r .0) (same (s .lent) (s .left) (r .1)) v)
+
+  run-ok : (ledger : Text) (ss : List Step) → Run promise ledger ss → T (ledgerOk ledger) → T (ledgerOk (ledgerAfterRun ledger ss))
+  run-ok ledger [] r ok = ok
+  run-ok ledger (s ∷ ss) r ok = run-ok (s .left .ledger) ss (r .2) (leaves-ok ledger s (r .0) (same (s .lent) (s .left) (r .1)) ok)
 
   -- DEMAND 3
   pub demand-3 : MeetsDemand3 promise
