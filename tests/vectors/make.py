@@ -388,8 +388,8 @@ def bounds_cases():
 
 
 if __name__ == "__main__":
-    write("house_vectors", house_cases())
-    write("lines_vectors", lines_cases())
-    write("book_vectors", book_cases())
-    write("ledger_vectors", ledger_cases())
-    write("bounds_vectors", bounds_cases())
+    write("vectors_house", house_cases())
+    write("vectors_lines", lines_cases())
+    write("vectors_book", book_cases())
+    write("vectors_ledger", ledger_cases())
+    write("vectors_bounds", bounds_cases())

@@ -1,5 +1,5 @@
 #!/usr/bin/env python3
-"""Writes the vectors of the program crates/rules_vectors: files to judge (stdin) and what must be printed of them (stdout).
+"""Writes the vectors of the program crates/vectors_rules: files to judge (stdin) and what must be printed of them (stdout).
 
 Each vector is a valid file with an edit, and says by hand what must be found; `document.findings` must find the same. Every (kind, field, rule)
 that document 01 allows is reached. usage, in the project's root:
@@ -444,4 +444,4 @@ def against(command):
 if __name__ == "__main__":
     if sys.argv[1:]:
         sys.exit(against(sys.argv[1:]))
-    write("rules_vectors", cases())
+    write("vectors_rules", cases())

@@ -1,5 +1,7 @@
 -- What the functions' own needs ask
-mod StepNeeds
 mod SettleNeeds
+mod SettledNeeds
+mod StepNeeds
 -- No second answer
+mod OneSettling
 mod OneAnswer

@@ -1,125 +1,191 @@
--- What each need of the function that settles a file without findings asks.
+-- What each need of the functions that settle the blocks of an index asks.
 -- Assumes nothing.
-use mathlib.Core.Path.{_≡_, refl, sym, ap, _∙_, subst}
+use mathlib.Core.Path.{_≡_, refl, sym, ap, _∙_}
 use mathlib.Core.Bool.{Bool, true, false, cond}
 use mathlib.Core.List.{List, [], _∷_}
-use mathlib.Core.Logic.{inl, inr}
-use Prim.Native.Nat.{ℕ, _+_, _≤_}
+use Prim.Native.Nat.{ℕ, suc, _+_, _-_, _/_, _≤_, _<_}
 use native.Mathlib.Omega.{arith}
 use borrow.Author.Needs.{needs}
-use borrow.Author.Tests.{le-leb, leb-true, leb-false, lt-ltb, le-ltb}
-use lib.Dec.{T, leb}
-use lib.ListN.{length, take, length-map}
-use lib.Seq.{length-take-le}
-use Rattle.house.specs.Text.{Text, count}
-use Rattle.house.specs.Members.{In}
-use Rattle.house.proofs.Facts.{is-true}
-use Rattle.house.proofs.Small.{clash}
-use Rattle.events.specs.Events.{eventAt, eventsAt}
-use Rattle.ledger.specs.Ledger.{Event, slotsIn, liveIn, isAmong, ledgerWith, isFit, updated}
-use Rattle.ledger.proofs.EventLaws.{among-in, in-among}
-use Rattle.ledger.proofs.UpdateLaws.{fit-numbers, updated-fit}
-use Rattle.rules.specs.Places.{placesIn}
-use Rattle.rules.specs.Blocks.{eventsOf, adds, changes, deletes}
-use Rattle.index.specs.Firsts.{indexOf, partOf}
-use Rattle.index.proofs.TypeLaws.{part-count, part-among, part-ascends, part-after}
-use Rattle.settle.specs.declared.Counts.{Counts}
-use Rattle.settle.specs.declared.Settled.{Settled}
-use Rattle.settle.specs.declared.Settled.the-variants.{Done, NoRoom}
-use Rattle.settle.specs.Settled.{countsOf, hasRoom, settledOf, settledLedger}
-use Rattle.answers.specs.declared.Answer.the-variants.{Accepted, Full}
-use Rattle.answers.specs.Answers.{lent, left, added, changed, deleted, notImmunized, isFull, ledgerAfter, accepted, roomed}
-use Rattle.answers.specs.Inside.{Settles, Settling}
+use borrow.Author.Tests.{le-leb, lt-leb, leb-true}
+use lib.Dec.{leb}
+use lib.ListN.{length, take}
+use Rattle.house.specs.Text.{Text, those, orderOf, same}
+use Rattle.house.proofs.Small.{both, clash}
+use Rattle.house.proofs.Decisions.{same-true}
+use Rattle.ledger.specs.Ledger.{slotsIn, updated}
+use Rattle.ledger.proofs.FoundLaws.{those-le}
+use Rattle.rules.specs.Firsts.{over, isTyped, partOf}
+use Rattle.rules.proofs.OverLaws.{over-taken, length-over, part-few}
+use Rattle.answers.specs.declared.settle.Counts.{Counts}
+use Rattle.answers.specs.declared.settle.Settled.{Settled}
+use Rattle.answers.specs.declared.settle.Settled.the-variants.{Done, NoRoom}
+use Rattle.answers.specs.Settled.{countsOf, hasRoom, settledOf, settledLedger, settledIndex}
 
--- what is live and added has room in the slots and those of the deleted
-abbrev Fit : Text → Text → Type 0
-Fit f l = length (liveIn l) + length (eventsOf adds (placesIn f)) ≤ slotsIn l + length (eventsOf deletes (placesIn f))
+-- renew_by
+module _ (f : Text) (ix ix′ : List ℕ) (a : ℕ) (ex : ix′ ≡ over (partOf f 65 ix) ix) (ea : a ≡ length (partOf f 65 ix)) where
+  pub renew-adds : a ≤ length ix′
+  renew-adds = omega (arith, part-few f 65 ix, ap length ex, length-over (partOf f 65 ix) ix)
 
-count-all : (p : Event → Bool) (es : List Event) → ((e : Event) → In e es → p e ≡ true) → count p es ≡ length es
-count-all p [] h = refl
-count-all p (e ∷ es) h = rw (h e (inl refl)) (omega (arith, count-all p es (λ x m. h x (inr m))))
+  pub renewed : (l l′ : Text) (ps : List ℕ) → l′ ≡ updated l f (take (a - 0) ix′) ps → l′ ≡ updated l f (partOf f 65 ix) ps
+  renewed l l′ ps e =
+      let p : take (a - 0) ix′ ≡ partOf f 65 ix = ap (take (a - 0)) ex ∙ over-taken (partOf f 65 ix) ix (a - 0) (omega arith) (part-few f 65 ix) in
+      e ∙ ap (λ (gs : List ℕ). updated l f gs ps) p
 
--- the places of the added and of the deleted, of a file whose index has been read
-module _ (f l : Text) (s : Settles f l) where
-  gs : List ℕ
-  gs = partOf f 65 (indexOf f)
+pub ruleset for-renew-by = (needs, renew-adds, renewed)
 
-  ds : List ℕ
-  ds = partOf f 68 (indexOf f)
+-- renew_in
+module _ (f : Text) (ix out out′ : List ℕ) (d : ℕ) (eo : out′ ≡ over (partOf f 68 ix) out) (ed : d ≡ length (partOf f 68 ix)) (room : length ix ≤ length out) where
+  pub renew-deletes : d ≤ length out′
+  renew-deletes = omega (arith, part-few f 68 ix, ap length eo, length-over (partOf f 68 ix) out)
 
-  all-live : count (isAmong (liveIn l)) (eventsAt f ds) ≡ length (eventsOf deletes (placesIn f))
-  unfolding ds eventsAt
-  all-live =
-      count-all (isAmong (liveIn l)) (eventsAt f (partOf f 68 (indexOf f)))
-      (λ e m.
-      is-true (isAmong (liveIn l) e)
-      (in-among (liveIn l) e
-      (s .were-live e
-      (among-in (eventsOf deletes (placesIn f)) e
-      (subst T (part-among f 68 e) (in-among (eventsAt f (partOf f 68 (indexOf f))) e m))))))
-      ∙ length-map (partOf f 68 (indexOf f)) (eventAt f) ∙ part-count f 68
+  pub renewed-in : (l l′ : Text) → l′ ≡ updated l f (partOf f 65 ix) (take (d - 0) out′) → l′ ≡ updated l f (partOf f 65 ix) (partOf f 68 ix)
+  renewed-in l l′ e =
+      let p : take (d - 0) out′ ≡ partOf f 68 ix = ap (take (d - 0)) eo ∙ over-taken (partOf f 68 ix) out (d - 0) (omega arith) (omega (arith, part-few f 68 ix)) in
+      e ∙ ap (updated l f (partOf f 65 ix)) p
 
-  is-fit : Fit f l → isFit l f gs ds ≡ true
-  unfolding gs ds
-  is-fit r =
-      fit-numbers l f (partOf f 65 (indexOf f)) (partOf f 68 (indexOf f)) (s .ok) (part-ascends f 65 (s .adds-once)) (part-ascends f 68 (s .deletes-once))
-      (omega (arith, r, part-count f 65, all-live))
+pub ruleset for-renew-in = (needs, renew-deletes, renewed-in)
 
-  updated-is : Fit f l → updated l f gs ds ≡ ledgerAfter (lent 0 f [] l [])
-  unfolding gs ds ledgerAfter added deleted
-  updated-is r = updated-fit l f (partOf f 65 (indexOf f)) (partOf f 68 (indexOf f)) (is-fit r) ∙ ap (ledgerWith (length l)) (part-after f (liveIn l) 65 68)
+-- where all add, none changes and none deletes
+those-all : (p : ℕ → Bool) (xs : List ℕ) → length (those p xs) ≡ length xs → those p xs ≡ xs
+those-all p [] h = refl
+those-all p (x ∷ xs) h = go (p x) (those-all p xs) h
+  where
+    go : (b : Bool) → (length (those p xs) ≡ length xs → those p xs ≡ xs) → length (cond b (x ∷ those p xs) (those p xs)) ≡ suc (length xs)
+        → cond b (x ∷ those p xs) (those p xs) ≡ x ∷ xs
+    go true r e = ap (λ (l : List ℕ). x ∷ l) (r (omega arith))
+    go false r e = absurd (omega (arith, those-le p xs))
 
--- settle_front
-pub front-size : (n : ℕ) (room : List ℕ) → n ≤ length room → n ≡ length (take n room)
-front-size n room h = sym (length-take-le n room h)
+those-none : (p q : ℕ → Bool) (xs : List ℕ) → ((x : ℕ) → p x ≡ true → q x ≡ false) → length (those p xs) ≡ length xs → those q xs ≡ []
+those-none p q [] f h = refl
+those-none p q (x ∷ xs) f h = go (those-none p q xs f) (p x) refl h
+  where
+    go : (length (those p xs) ≡ length xs → those q xs ≡ []) → (b : Bool) → p x ≡ b → length (cond b (x ∷ those p xs) (those p xs)) ≡ suc (length xs)
+        → cond (q x) (x ∷ those q xs) (those q xs) ≡ []
+    go r true k e = rw (f x k) (r (omega arith))
+    go r false k e = absurd (omega (arith, those-le p xs))
 
-module _ (f l l′ : Text) (live m : ℕ) (ix : List ℕ) (s : Settled) (es : s ≡ settledOf f l live ix) (el : l′ ≡ settledLedger f l live ix) (g : Settling f l live ix m) where
-  part-is : (type : ℕ) → length (partOf f type ix) ≡ length (eventsOf (type ∷ []) (placesIn f))
-  part-is type = ap (λ (ps : List ℕ). length (partOf f type ps)) (g .index-is) ∙ part-count f type
+over-self : (ps : List ℕ) → over ps ps ≡ ps
+over-self [] = refl
+over-self (p ∷ ps) = ap (λ (l : List ℕ). p ∷ l) (over-self ps)
 
-  room-is : hasRoom f l live ix ≡ leb (length (liveIn l) + length (eventsOf adds (placesIn f))) (slotsIn l + length (eventsOf deletes (placesIn f)))
-  unfolding hasRoom
-  room-is = rw (le-leb (length ix) 96154 (g .few), g .live-is, part-is 65, part-is 68)
+module _ (f : Text) (ix : List ℕ) (a : ℕ) (ea : a ≡ length (partOf f 65 ix)) (all : a ≡ length ix) where
+  all-add : partOf f 65 ix ≡ ix
+  unfolding partOf
+  all-add = those-all (isTyped f 65) ix (sym ea ∙ all)
 
-  told : (b : Bool) (n : Counts) → cond b (Done (countsOf f ix)) NoRoom ≡ Done n → (b ≡ true) × (countsOf f ix ≡ n)
-  told true n e = (refl, cc)
-  told false n e = clash (cc)
+  -- a line is of one type
+  no-other : (type : ℕ) → same (65 ∷ []) (type ∷ []) ≡ false → partOf f type ix ≡ []
+  unfolding partOf isTyped
+  no-other type h = those-none (isTyped f 65) (isTyped f type) ix (λ p e. rw (same-true _ _ e) h) (sym ea ∙ all)
 
-  told-none : (b : Bool) → cond b (Done (countsOf f ix)) NoRoom ≡ NoRoom → b ≡ false
-  told-none true e = clash (cc)
-  told-none false e = refl
+  no-change : partOf f 67 ix ≡ []
+  unfolding same orderOf
+  no-change = no-other 67 refl
 
-  pub settled-full : s ≡ NoRoom → left Full l′ [] ≡ roomed (lent 0 f [] l [])
-  unfolding settledOf settledLedger roomed isFull added deleted
-  settled-full z =
-      let h : hasRoom f l live ix ≡ false = told-none (hasRoom f l live ix) (sym es ∙ z) in
-      let e : l′ ≡ l = el ∙ rw h in
-      let over = leb-false (length (liveIn l) + length (eventsOf adds (placesIn f))) (slotsIn l + length (eventsOf deletes (placesIn f))) (sym room-is ∙ h) in
-      rw (e, lt-ltb (slotsIn l + length (eventsOf deletes (placesIn f))) (length (liveIn l) + length (eventsOf adds (placesIn f))) over)
+  no-delete : partOf f 68 ix ≡ []
+  unfolding same orderOf
+  no-delete = no-other 68 refl
 
-  module _ (n : Counts) (z : s ≡ Done n) where
-    there : (hasRoom f l live ix ≡ true) × (countsOf f ix ≡ n)
-    unfolding settledOf
-    there = told (hasRoom f l live ix) n (sym es ∙ z)
+  -- renew
+  pub all-renewed : (l l′ : Text) → l′ ≡ updated l f ix [] → l′ ≡ updated l f (partOf f 65 ix) (partOf f 68 ix)
+  all-renewed l l′ e = rw (all-add, no-delete) e
 
-    fits : Fit f l
-    fits = leb-true (length (liveIn l) + length (eventsOf adds (placesIn f))) (slotsIn l + length (eventsOf deletes (placesIn f))) (sym room-is ∙ there .0)
+  pub all-kept : ix ≡ over (partOf f 65 ix) ix
+  all-kept = rw all-add (sym (over-self ix))
 
-    counts-are : (n .added ≡ length (eventsOf adds (placesIn f))) × (n .changed ≡ length (eventsOf changes (placesIn f))) × (n .deleted ≡ length (eventsOf deletes (placesIn f)))
+  -- count_types
+  pub counts-all : record { added = a; changed = 0; deleted = 0 } ≡ countsOf f ix
+  unfolding countsOf
+  counts-all = rw (no-change, no-delete, ← ea)
+
+pub ruleset for-renew = (needs, all-renewed, all-kept)
+
+-- count_types
+pub counts-are : (f : Text) (ix : List ℕ) (a c d : ℕ) → a ≡ length (partOf f 65 ix) → c ≡ length (partOf f 67 ix) → d ≡ length (partOf f 68 ix) → record { added = a; changed = c; deleted = d } ≡ countsOf f ix
+unfolding countsOf
+counts-are f ix a c d ea ec ed = rw (ea, ec, ed)
+
+pub counts-few : (f : Text) (ix : List ℕ) (type n : ℕ) → n ≡ length (partOf f type ix) → length ix ≤ 96154 → n ≤ 96154
+counts-few f ix type n e h = omega (arith, part-few f type ix)
+
+pub ruleset for-count-types = (needs, counts-all, counts-are, counts-few)
+
+-- room_for
+module _ (f l : Text) (live : ℕ) (ix : List ℕ) where
+  pub many-none : 96154 < length ix → NoRoom ≡ settledOf f l live ix
+  unfolding settledOf hasRoom
+  many-none h = rw (lt-leb (length ix) 96154 h)
+
+  module _ (n : Counts) (en : n ≡ countsOf f ix) (few : length ix ≤ 96154) where
+    adds-are : n .added ≡ length (partOf f 65 ix)
     unfolding countsOf
-    counts-are =
-        let e = sym (there .1) in
-        (ap (λ (k : Counts). k .added) e ∙ part-is 65, ap (λ (k : Counts). k .changed) e ∙ part-is 67, ap (λ (k : Counts). k .deleted) e ∙ part-is 68)
+    adds-are = ap (λ (k : Counts). k .added) en
 
-    ledger-is : l′ ≡ ledgerAfter (lent 0 f [] l [])
-    unfolding settledLedger gs ds
-    ledger-is =
-        el ∙ rw (there .0) (ap (λ (ps : List ℕ). updated l f (partOf f 65 ps) (partOf f 68 ps)) (g .index-is) ∙ updated-is f l (g .settles) fits)
+    deletes-are : n .deleted ≡ length (partOf f 68 ix)
+    unfolding countsOf
+    deletes-are = ap (λ (k : Counts). k .deleted) en
 
-    pub settled-done : left (Accepted (n .added) (n .changed) (n .deleted) m) l′ [] ≡ roomed (lent 0 f [] l [])
-    unfolding roomed isFull accepted added changed deleted notImmunized
-    settled-done =
-        rw (le-ltb (slotsIn l + length (eventsOf deletes (placesIn f))) (length (liveIn l) + length (eventsOf adds (placesIn f))) fits)
-        (rw (counts-are .0, counts-are .1, counts-are .2, g .declined-is, ledger-is))
+    pub full-none : length l / 38 + n .deleted < live + n .added → NoRoom ≡ settledOf f l live ix
+    unfolding settledOf hasRoom slotsIn
+    full-none h = rw (le-leb (length ix) 96154 few, ← adds-are, ← deletes-are, lt-leb (live + n .added) (length l / 38 + n .deleted) h)
 
-pub ruleset for-settle-front = (needs, front-size, settled-full, settled-done)
+    pub over-none : length l / 38 + n .deleted < live → NoRoom ≡ settledOf f l live ix
+    over-none h = full-none (omega arith)
+
+    pub fits-done : live + n .added ≤ length l / 38 + n .deleted → Done n ≡ settledOf f l live ix
+    unfolding settledOf hasRoom slotsIn
+    fits-done h = rw (le-leb (length ix) 96154 few, ← adds-are, ← deletes-are, le-leb (live + n .added) (length l / 38 + n .deleted) h, en)
+
+pub ruleset for-room-for = (needs, many-none, over-none, full-none, fits-done)
+
+-- settle
+module _ (f l : Text) (live : ℕ) (ix : List ℕ) (s : Settled) (es : s ≡ settledOf f l live ix) where
+  room-if : (n : Counts) → s ≡ Done n → hasRoom f l live ix ≡ true
+  unfolding settledOf
+  room-if n z = go (hasRoom f l live ix) (sym es ∙ z)
+    where
+      go : (b : Bool) → cond b (Done (countsOf f ix)) NoRoom ≡ Done n → b ≡ true
+      go true e = refl
+      go false e = clash (cc)
+
+  none-if : s ≡ NoRoom → hasRoom f l live ix ≡ false
+  unfolding settledOf
+  none-if z = go (hasRoom f l live ix) (sym es ∙ z)
+    where
+      go : (b : Bool) → cond b (Done (countsOf f ix)) NoRoom ≡ NoRoom → b ≡ false
+      go true e = clash (cc)
+      go false e = refl
+
+  pub done-few : (n : Counts) → s ≡ Done n → length ix ≤ 96154
+  unfolding hasRoom
+  done-few n z =
+      leb-true (length ix) 96154 (both (leb (length ix) 96154) (leb (live + length (partOf f 65 ix)) (slotsIn l + length (partOf f 68 ix))) (room-if n z) .0)
+
+  pub done-added : (n : Counts) → s ≡ Done n → n .added ≡ length (partOf f 65 ix)
+  unfolding settledOf countsOf
+  done-added n z = go (hasRoom f l live ix) (sym es ∙ z)
+    where
+      go : (b : Bool) → cond b (Done (countsOf f ix)) NoRoom ≡ Done n → n .added ≡ length (partOf f 65 ix)
+      go true e = sym (cc)
+      go false e = clash (cc)
+
+  pub done-ledger : (n : Counts) (l′ : Text) → s ≡ Done n → l′ ≡ updated l f (partOf f 65 ix) (partOf f 68 ix) → l′ ≡ settledLedger f l live ix
+  unfolding settledLedger
+  done-ledger n l′ z e = rw (room-if n z) e
+
+  pub done-index : (n : Counts) (ix′ : List ℕ) → s ≡ Done n → ix′ ≡ over (partOf f 65 ix) ix → ix′ ≡ settledIndex f l live ix
+  unfolding settledIndex
+  done-index n ix′ z e = rw (room-if n z) e
+
+  pub none-ledger : s ≡ NoRoom → l ≡ settledLedger f l live ix
+  unfolding settledLedger
+  none-ledger z = rw (none-if z)
+
+  pub none-index : s ≡ NoRoom → ix ≡ settledIndex f l live ix
+  unfolding settledIndex
+  none-index z = rw (none-if z)
+
+  pub as-told : (r : Settled) → s ≡ r → r ≡ settledOf f l live ix
+  as-told r z = sym z ∙ es
+
+pub ruleset for-settle = (needs, done-few, done-added, done-ledger, done-index, none-ledger, none-index, as-told)

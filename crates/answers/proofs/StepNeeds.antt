@@ -27,14 +27,14 @@ use Rattle.ledger.proofs.EventLaws.{among-in}
 use Rattle.ledger.specs.Ledger.{ledgerOk, liveIn, validOf as ledgerValid}
 use Rattle.rules.specs.Seen.{Setting}
 use Rattle.rules.specs.Findings.{Finding, findingsOf, areaAfter}
-use Rattle.index.specs.Firsts.{firstsOf, indexOf, over, canBuild, builtIn}
+use Rattle.rules.specs.Firsts.{firstsOf, indexOf, over, canBuild, builtIn}
 use Rattle.rules.proofs.BlockLaws.{clean-file}
-use Rattle.index.proofs.OverLaws.{over-taken, length-over, index-size}
-use Rattle.index.proofs.SizeLaws.{capacity}
-use Rattle.judge.specs.declared.Judged.{Judged}
-use Rattle.judge.specs.declared.Judged.the-variants.{Done, TooMany}
-use Rattle.judge.specs.Judged.{findingsBy, judgedOf, judgedArea}
-use Rattle.judge.proofs.SettingLaws.{setting-is}
+use Rattle.rules.proofs.OverLaws.{over-taken, length-over, index-size}
+use Rattle.rules.proofs.SizeLaws.{capacity}
+use Rattle.rules.specs.declared.Judged.{Judged}
+use Rattle.rules.specs.declared.Judged.the-variants.{Done, TooMany}
+use Rattle.rules.specs.Judged.{findingsBy, judgedOf, judgedArea}
+use Rattle.rules.proofs.SettingLaws.{setting-is}
 use Rattle.answers.specs.declared.steps.Tally.{Tally}
 use Rattle.answers.specs.declared.Answer.{Answer}
 use Rattle.answers.specs.declared.Answer.the-variants.{Date, Long, Book, Ledger, Shape as BadShape, Findings, Full}

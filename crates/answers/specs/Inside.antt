@@ -14,7 +14,7 @@ use Rattle.book.specs.Book.{Sound}
 use Rattle.ledger.specs.Ledger.{Event, ledgerOk, liveIn}
 use Rattle.rules.specs.Places.{placesIn}
 use Rattle.rules.specs.Blocks.{eventsOf, adds, deletes}
-use Rattle.index.specs.Firsts.{firstsOf, indexOf}
+use Rattle.rules.specs.Firsts.{firstsOf, indexOf}
 use Rattle.answers.specs.declared.steps.Tally.{Tally}
 use Rattle.answers.specs.declared.Answer.the-variants.{Ledger}
 use Rattle.answers.specs.Answers.{Lent, Outcome, fileMost, findings, notImmunized, refused, shaped}

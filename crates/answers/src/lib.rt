@@ -1,4 +1,5 @@
 // The check of a submission, in the order of its answers: one call over file, code book, ledger, findings area and today's date.
+mod settle;
 mod steps;
 
 pub use steps::check;

@@ -1,10 +1,10 @@
 // The steps of the check, in the order of document 01's answers: each function answers from one of them on.
 use crate::Answer;
+use crate::settle::Settled;
 use book::Sections;
 use dates::Date;
-use judge::Judged;
 use lines::Shape;
-use settle::Settled;
+use rules::Judged;
 ghost use mathlib.Core.Path.{_≡_};
 ghost use mathlib.Core.List.{[]};
 ghost use Prim.Native.Nat.{_≤_};
@@ -41,7 +41,7 @@ fn judge_all(
     ensures { λ _. ⌜ now (area .exit) ≡ areaAfter (now (area .entry)) (findings (lent today (now (file .entry)) (take (q .end) (now (guided .entry))) (now (ledger .entry)) (now (area .entry)))) ⌝ }
     ensures { λ r. ⌜ Judges (now (file .entry)) (now (ledger .entry)) live r (now (room .exit)) ⌝ }
 {
-    let j = judge::judge(today, file, guided, q, ledger, live, room, area);
+    let j = rules::judge(today, file, guided, q, ledger, live, room, area);
     match j {
         Judged::Done {
             blocks,
@@ -73,7 +73,7 @@ fn settle_front(
     requires { ⌜ blocks ≤ length (now room) ⌝ }
     ensures { λ r. ⌜ left r (now (ledger .exit)) [] ≡ roomed (lent 0 (now (file .entry)) [] (now (ledger .entry)) []) ⌝ }
 {
-    let s = settle::settle(file, ledger, live, &mut room[..blocks]);
+    let s = crate::settle::settle(file, ledger, live, &mut room[..blocks]);
     match s {
         Settled::Done(n) => Answer::Accepted {
             added: n.added,

@@ -5,7 +5,7 @@ use mathlib.Core.Bool.{Bool, true, false, not, cond}
 use mathlib.Core.List.{List, [], _∷_, _++_, append-nil}
 use Rattle.house.specs.Text.{Text, those, same}
 use Rattle.house.proofs.Decisions.{is-same, not-same, below-irrefl}
-use Rattle.events.specs.Inside.{Lt, Over}
+use Rattle.lines_places.specs.Inside.{Lt, Over}
 use Rattle.ledger.specs.Ledger.{isAmong, less}
 use Rattle.ledger.specs.Inside.{whole}
 

@@ -14,11 +14,11 @@ use lib.Seq.{drop-cons, drop-set-lt, take-set-le, take-suc, take-take, take-all,
 use Rattle.house.specs.Text.{Text, below}
 use Rattle.house.proofs.Small.{both}
 use Rattle.house.proofs.Facts.{of-true}
-use Rattle.events.specs.Events.{eventAt, eventsAt}
-use Rattle.events.specs.Sorted.{place}
-use Rattle.events.specs.Inside.{Lt, Le, Under, Upto, Up}
-use Rattle.events.proofs.Ranks.{le-of}
-use Rattle.events.proofs.Order.{all-take, place-append, place-snoc, put-last, upto-take, upto-le, under-lt}
+use Rattle.lines_places.specs.Events.{eventAt, eventsAt}
+use Rattle.lines_places.specs.Sorted.{place}
+use Rattle.lines_places.specs.Inside.{Lt, Le, Under, Upto, Up}
+use Rattle.lines_places.proofs.Ranks.{le-of}
+use Rattle.lines_places.proofs.Order.{all-take, place-append, place-snoc, put-last, upto-take, upto-le, under-lt}
 use Rattle.ledger.specs.Ledger.{slots, liveSlot}
 use Rattle.ledger.specs.Inside.{whole, slotsFor, slotBefore, goesLast, lastOf}
 use Rattle.ledger.proofs.SlotLaws.{length-slots}

@@ -17,9 +17,9 @@ use Rattle.house.proofs.Small.{both}
 use Rattle.house.proofs.OrderAlgebra.{flip, flipped, same-eq}
 use Rattle.house.proofs.Decisions.{is-same, not-same, below-less, order-refl}
 use Rattle.house.proofs.SearchLaws.{Decides, hit, miss, halve-decides}
-use Rattle.events.specs.Inside.{Lt, Asc}
-use Rattle.events.proofs.Ranks.{order, le-lt-trans}
-use Rattle.events.proofs.Order.{all-at}
+use Rattle.lines_places.specs.Inside.{Lt, Asc}
+use Rattle.lines_places.proofs.Ranks.{order, le-lt-trans}
+use Rattle.lines_places.proofs.Order.{all-at}
 use Rattle.ledger.specs.Ledger.{slotsIn, slots, isLiveSlot, slotForm, slotFollows, ledgerOk, liveIn, isAmong, liveSlot, eventIn, slotsAsked, foundIn}
 use Rattle.ledger.specs.Inside.{whole}
 use Rattle.ledger.proofs.SlotLaws.{length-slots}

@@ -20,9 +20,9 @@ use Rattle.house.proofs.Small.{clash}
 use Rattle.house.proofs.OrderAlgebra.{flip, flipped, same-eq}
 use Rattle.house.proofs.Decisions.{less-below}
 use Rattle.house.proofs.Suffix.{drop-here, drop-past}
-use Rattle.events.specs.Events.{eventAt, eventsAt}
-use Rattle.events.specs.Inside.{Lt, All, Asc}
-use Rattle.events.proofs.Order.{over-down}
+use Rattle.lines_places.specs.Events.{eventAt, eventsAt}
+use Rattle.lines_places.specs.Inside.{Lt, All, Asc}
+use Rattle.lines_places.proofs.Order.{over-down}
 use Rattle.ledger.specs.Ledger.{slots, liveSlot, isAmong, less}
 use Rattle.ledger.specs.Inside.{whole, slotsFor, slotBefore, orderIf}
 use Rattle.ledger.proofs.SlotLaws.{length-slots}

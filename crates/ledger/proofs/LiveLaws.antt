@@ -9,11 +9,11 @@ use Rattle.house.specs.Text.{Text, those, adjacent, chained, joined, isLess, is
 use Rattle.house.proofs.Small.{clash, both}
 use Rattle.house.proofs.Facts.{of-true}
 use Rattle.house.proofs.OrderAlgebra.{cons-eq}
-use Rattle.events.specs.Events.{ascends}
-use Rattle.events.specs.Sorted.{putIn, place}
-use Rattle.events.specs.Inside.{Lt, Over, Asc}
-use Rattle.events.proofs.Order.{over-down}
-use Rattle.events.proofs.SortedLaws.{ascends-asc}
+use Rattle.lines_places.specs.Events.{ascends}
+use Rattle.lines_places.specs.Sorted.{putIn, place}
+use Rattle.lines_places.specs.Inside.{Lt, Over, Asc}
+use Rattle.lines_places.proofs.Order.{over-down}
+use Rattle.lines_places.proofs.SortedLaws.{ascends-asc}
 use Rattle.ledger.specs.Ledger.{isLiveSlot, slotFollows, isAmong, insert, plus, less, liveSlot}
 use Rattle.ledger.specs.Inside.{whole}
 use Rattle.ledger.proofs.HeldLaws.{live-slot}

@@ -8,8 +8,8 @@ use native.Mathlib.Omega.{arith}
 use lib.ListN.{length}
 use Rattle.house.specs.Text.{Text, any, count, same}
 use Rattle.house.proofs.Decisions.{same-true, same-sym}
-use Rattle.events.specs.Inside.{Over, Asc}
-use Rattle.events.proofs.Order.{length-place}
+use Rattle.lines_places.specs.Inside.{Over, Asc}
+use Rattle.lines_places.proofs.Order.{length-place}
 use Rattle.ledger.specs.Ledger.{isAmong, less, eventsAfter}
 use Rattle.ledger.specs.Inside.{whole}
 use Rattle.ledger.proofs.AmongLaws.{below-differs, among-none}

@@ -14,11 +14,11 @@ use lib.Seq.{take-at, take-add}
 use Rattle.house.specs.Text.{Text, those, count, adjacent, joined, below, same}
 use Rattle.house.proofs.Small.{both}
 use Rattle.house.proofs.Suffix.{drop-here, drop-past}
-use Rattle.events.specs.Events.{eventAt, eventsAt, ascends}
-use Rattle.events.specs.Sorted.{putIn, place}
-use Rattle.events.specs.Inside.{Asc, Up}
-use Rattle.events.proofs.Order.{up-asc, asc-those, length-place, place-sorted}
-use Rattle.events.proofs.SortedLaws.{keys-placed}
+use Rattle.lines_places.specs.Events.{eventAt, eventsAt, ascends}
+use Rattle.lines_places.specs.Sorted.{putIn, place}
+use Rattle.lines_places.specs.Inside.{Asc, Up}
+use Rattle.lines_places.proofs.Order.{up-asc, asc-those, length-place, place-sorted}
+use Rattle.lines_places.proofs.SortedLaws.{keys-placed}
 use Rattle.ledger.specs.Ledger.{slotsIn, chop, slots, isLiveSlot, slotFollows, ledgerOk, liveIn, isAmong, foundIn, plus, less, eventsAfter, liveSlot, ledgerWith, isFit, updated}
 use Rattle.ledger.specs.Inside.{whole, slotsFor, hasRoom, Fit}
 use Rattle.ledger.proofs.BackLaws.{length-for}

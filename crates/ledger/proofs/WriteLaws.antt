@@ -15,10 +15,10 @@ use Rattle.house.specs.declared.Order.{Order}
 use Rattle.house.specs.declared.Order.the-variants.{More}
 use Rattle.house.specs.Text.{Text, orderOf, below}
 use Rattle.house.proofs.Small.{both}
-use Rattle.events.specs.Events.{eventAt}
+use Rattle.lines_places.specs.Events.{eventAt}
 use Rattle.ledger.specs.Ledger.{slots, liveSlot}
 use Rattle.ledger.specs.Inside.{slotBefore, orderIf, goesLast, lastOf}
-use Rattle.events.proofs.MergeLaws.{front-on}
+use Rattle.lines_places.proofs.MergeLaws.{front-on}
 use Rattle.ledger.proofs.SlotLaws.{slot-at, slot-fits, slots-paste}
 
 -- read_slot

@@ -10,7 +10,7 @@ use lib.Dec.{eqb, leb}
 use Rattle.house.specs.Text.{Text, any, all, those, joined, adjacent, orderOf, same, below, run, isDigit, isPadded}
 use Rattle.dates.specs.Dates.{isDate}
 use Rattle.house.specs.Search.{halve}
-use Rattle.events.specs.Events.{eventsAt, ascends}
+use Rattle.lines_places.specs.Events.{eventsAt, ascends}
 use Rattle.ledger.specs.declared.Validity.{Validity}
 use Rattle.ledger.specs.declared.Validity.the-variants.{Sound, Malformed}
 

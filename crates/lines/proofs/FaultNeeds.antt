@@ -11,14 +11,15 @@ use lib.Dec.{eqb, ltb, leb}
 use lib.ListN.{length, getD, take, drop}
 use Rattle.house.specs.Text.{Text}
 use Rattle.house.proofs.Suffix.{drop-here, drop-past}
-use Rattle.lines.specs.declared.LineAt.{LineAt}
+use Rattle.lines_fields.specs.declared.LineAt.{LineAt}
 use Rattle.lines.specs.declared.Shape.{Shape}
 use Rattle.lines.specs.declared.Shape.the-variants.{Right, Fault}
-use Rattle.lines.specs.Lines.{pipe, linesOf, fieldsOf, LineIs}
+use Rattle.lines_fields.specs.Lines.{pipe, linesOf, fieldsOf, LineIs}
 use Rattle.lines.specs.Records.{IF, recordOf, countOf}
 use Rattle.lines.specs.Shape.{follows, printable, pipeLast, cause1, cause2, cause3, cause4, cause5, cause6, causeOf, cause7, shapeFrom, shapeOf}
-use Rattle.lines.specs.Inside.{lesserOf, greaterOf, kindCause}
-use Rattle.lines.proofs.LineLaws.{lines-past, lines-on, left-falls, number-on}
+use Rattle.lines.specs.Inside.{greaterOf, kindCause}
+use Rattle.lines_fields.specs.Inside.{lesserOf}
+use Rattle.lines_fields.proofs.LineLaws.{lines-past, lines-on, left-falls, number-on}
 
 -- greater
 module _ (a b : ℕ) where

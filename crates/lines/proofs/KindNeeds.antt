@@ -11,7 +11,7 @@ use borrow.Author.Tests.{eq-eqb, ne-eqb, eqb-true}
 use lib.Dec.{eqb}
 use lib.ListN.{length, getD}
 use Rattle.house.specs.Text.{Text}
-use Rattle.lines.specs.Lines.{pipe, lengthen, fieldsOf}
+use Rattle.lines_fields.specs.Lines.{pipe, lengthen, fieldsOf}
 use Rattle.lines.specs.Records.{IV, IH, IP, II, IE, IN, IA, IF, letterKind, kindOf, recordOf, countOf}
 use Rattle.lines.specs.Shape.{isOne, follows}
 

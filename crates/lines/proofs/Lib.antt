@@ -1,13 +1,10 @@
 -- Laws for the crates above
-pub mod LineLaws
 pub mod PartLaws
-pub mod FieldLaws
-pub mod PositionLaws
 pub mod ShapeLaws
+-- Of the crate below
+pub use Rattle.lines_fields.proofs.LineLaws
+pub use Rattle.lines_fields.proofs.FieldLaws
 -- What the functions' own needs ask
-mod LineNeeds
-mod FieldNeeds
-mod AtNeeds
 mod KindNeeds
 mod FaultNeeds
 -- No second answer

@@ -11,11 +11,13 @@ use lib.Seq.{drop-drop, drop-nil, take-nil, take-add}
 use Rattle.house.specs.Text.{Text}
 use Rattle.house.proofs.Small.{clash}
 use Rattle.house.proofs.Members.{all-append}
-use Rattle.lines.specs.declared.LineAt.{LineAt}
-use Rattle.lines.specs.Lines.{LF, Line, lfNext, endingOf, grow, byEnding, linesOf, lineOf, textLen, lineLen, LineIs}
+use Rattle.lines_fields.specs.declared.LineAt.{LineAt}
+use Rattle.lines_fields.specs.Lines.{LF, Line, lfNext, endingOf, grow, byEnding, linesOf, lineOf, textLen, lineLen, LineIs}
 use Rattle.lines.specs.Records.{Rec, recOf, read, recs}
-use Rattle.lines.specs.Inside.{part, whole}
-use Rattle.lines.proofs.LineLaws.{by-ending, line-more, len-more, line-pos, lines-step, lines-past, at-next, at-lf, at-line, lines-on}
+use Rattle.lines.specs.Inside.{whole}
+use Rattle.lines_fields.specs.Inside.{part}
+use Rattle.lines_fields.proofs.CutLaws.{part-start, part-drop, part-split}
+use Rattle.lines_fields.proofs.LineLaws.{by-ending, line-more, len-more, line-pos, lines-step, lines-past, at-next, at-lf, at-line, lines-on}
 
 pub recs-nil : recs [] ≡ []
 unfolding recs linesOf
@@ -92,26 +94,8 @@ unfolding recs
 recs-on s at q e h = rw (lines-on s at q e h)
 
 -- parts
-pub part-empty : (s : Text) (p : ℕ) → part s p p ≡ []
-part-empty s p = let e : p - p ≡ 0 = omega arith in rw e
-
-pub part-start : (s : Text) (n : ℕ) → part s 0 n ≡ take n s
-part-start s n = let e : n - 0 ≡ n = omega arith in rw e
-
-pub part-drop : (s : Text) (p n : ℕ) → part s p n ≡ drop p (take n s)
-part-drop s zero n = part-start s n
-part-drop [] (suc p) n = simp (take-nil, drop-nil)
-part-drop (b ∷ s) (suc p) zero = let e : 0 - suc p ≡ 0 = omega arith in rw e
-part-drop (b ∷ s) (suc p) (suc n) = let e : suc n - suc p ≡ n - p = omega arith in rw e (part-drop s p n)
-
 pub part-whole : (s : Text) (p n : ℕ) → whole (take n s) ≡ true → whole (part s p n) ≡ true
 part-whole s p n h = rw (part-drop s p n) (whole-drop p (take n s) h)
-
-pub part-split : (s : Text) (p at next : ℕ) → p ≤ at → at ≤ next → part s p next ≡ part s p at ++ part s at next
-part-split s p at next h k =
-    let e : next - p ≡ (at - p) + (next - at) = omega arith in
-    let f : p + (at - p) ≡ at = omega arith in
-    rw (e, take-add, drop-drop, f)
 
 -- a line with its LF, by itself
 abbrev Alone : Text → Type 0

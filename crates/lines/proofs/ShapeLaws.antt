@@ -10,13 +10,13 @@ use lib.Dec.{eqb}
 use lib.ListN.{length, take, drop}
 use Rattle.house.specs.Text.{Text}
 use Rattle.house.proofs.Small.{clash}
-use Rattle.lines.specs.declared.LineAt.{LineAt}
+use Rattle.lines_fields.specs.declared.LineAt.{LineAt}
 use Rattle.lines.specs.declared.Shape.the-variants.{Right, Fault}
-use Rattle.lines.specs.Lines.{Line, linesOf, fieldsOf, LineIs}
+use Rattle.lines_fields.specs.Lines.{Line, linesOf, fieldsOf, LineIs}
 use Rattle.lines.specs.Records.{IF, recordOf, countOf}
 use Rattle.lines.specs.Shape.{follows, printable, pipeLast, cause1, cause2, cause3, cause4, cause5, cause6, causeOf, cause7, shapeFrom, shapeOf}
 use Rattle.lines.specs.Inside.{RightFrom, RightLine}
-use Rattle.lines.proofs.LineLaws.{lines-on}
+use Rattle.lines_fields.proofs.LineLaws.{lines-on}
 
 -- no cause at a line: each test of the definition has passed
 pub right-line : (p : ℕ) (l : Line) → causeOf p l ≡ 0 → RightLine p l

@@ -1,43 +1,23 @@
 -- What the crate's own functions answer: cited by private contracts and by laws alone. No public contract rests on this page.
 -- Assumes nothing.
-use Prim.Native.Nat.{ℕ, suc, _-_}
+use Prim.Native.Nat.{ℕ}
 use mathlib.Core.Path.{_≡_}
 use mathlib.Core.Bool.{Bool, true, not, cond}
 use mathlib.Core.List.{List, [], _∷_}
-use lib.ListN.{length, take, drop}
+use lib.ListN.{length}
 use lib.Dec.{eqb, ltb}
 use Rattle.house.specs.Text.{Text, all}
-use Rattle.lines.specs.Lines.{Line, pipe, linesOf, fieldsOf}
+use Rattle.lines_fields.specs.Lines.{Line, linesOf, fieldsOf}
 use Rattle.lines.specs.Records.{IF, recordOf, countOf}
 use Rattle.lines.specs.Shape.{follows, printable, pipeLast, causeOf}
-
--- a part of a file, from one position to another
-abbrev pub part : Text → ℕ → ℕ → Text
-part s a e = take (e - a) (drop a s)
 
 -- each line has its LF
 unfoldable pub whole : Text → Bool
 whole s = all (λ (l : Line). l .ended) (linesOf s)
 
--- how many bytes stand before the first pipe, or all
-unfoldable pub pipeLen : Text → ℕ
-pipeLen [] = 0
-pipeLen (b ∷ t) = cond (eqb b pipe) 0 (suc (pipeLen t))
-
--- the lesser and the greater of two bytes
-unfoldable pub lesserOf : ℕ → ℕ → ℕ
-lesserOf a b = cond (ltb b a) b a
-
+-- the greater of two bytes
 unfoldable pub greaterOf : ℕ → ℕ → ℕ
 greaterOf a b = cond (ltb a b) b a
-
--- the least of a number and some bytes
-unfoldable pub leastFrom : ℕ → Text → ℕ
-leastFrom low [] = low
-leastFrom low (b ∷ t) = leastFrom (lesserOf low b) t
-
-unfoldable pub leastOf : Text → ℕ
-leastOf t = leastFrom 255 t
 
 -- the lowest of causes 4 to 6 at a record of kind k with n fields that follows one of kind p, 0 for none
 unfoldable pub kindCause : ℕ → ℕ → ℕ → ℕ

@@ -7,7 +7,7 @@ use mathlib.Core.List.{List, [], _∷_}
 use lib.ListN.{getD}
 use lib.Dec.{eqb}
 use Rattle.house.specs.Text.{Text}
-use Rattle.lines.specs.Lines.{Line, linesOf, fieldsOf}
+use Rattle.lines_fields.specs.Lines.{Line, linesOf, fieldsOf}
 
 -- Kinds by number; 0 is none of them
 

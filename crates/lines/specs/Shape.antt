@@ -8,7 +8,7 @@ use lib.Dec.{eqb, ltb}
 use Rattle.house.specs.Text.{Text}
 use Rattle.lines.specs.declared.Shape.{Shape}
 use Rattle.lines.specs.declared.Shape.the-variants.{Right, Fault}
-use Rattle.lines.specs.Lines.{Line, linesOf, fieldsOf, pipe}
+use Rattle.lines_fields.specs.Lines.{Line, linesOf, fieldsOf, pipe}
 use Rattle.lines.specs.Records.{IV, IH, IP, II, IE, IN, IA, IF, recordOf, countOf}
 
 -- The order of records

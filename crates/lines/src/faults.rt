@@ -1,12 +1,12 @@
 // Faults of shape: the causes, and the first line that has one.
 use crate::Shape;
-use crate::fields::count_fields;
 use crate::kinds::IF;
 use crate::kinds::count_of;
 use crate::kinds::kind_of;
 use crate::kinds::may_follow;
-use crate::line::lesser;
-use crate::line::line_at;
+use lines_fields::count_fields;
+use lines_fields::lesser;
+use lines_fields::line_at;
 ghost use mathlib.Core.Path.{_≡_};
 ghost use Rattle.lines.specs.Shape.{printable, pipeLast, causeOf, shapeOf};
 ghost use Rattle.lines.specs.Inside.{greaterOf, kindCause};

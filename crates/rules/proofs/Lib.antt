@@ -1,4 +1,34 @@
-pub mod FindingLaws
-pub mod AreaLaws
-pub mod BlockLaws
-pub mod EdgesLaws
+-- The laws of the crate, for its own proofs and for the crates above.
+-- Assumes nothing.
+-- What is kept of a list of findings
+pub mod KeepLaws
+-- The walk over the lines
+pub mod WalkLaws
+pub mod StepLaws
+pub mod TurnLaws
+-- The rules at a field
+pub mod Collapse
+pub mod AtLaws
+pub mod BlankLaws
+pub mod RuleLaws
+pub mod SettingLaws
+-- What the functions' own needs ask
+mod EmitNeeds
+mod WalkNeeds
+mod FieldNeeds
+mod HeadNeeds
+mod LineNeeds
+mod PassNeeds
+mod TurnNeeds
+mod JudgeNeeds
+-- No second answer
+mod OneAnswer
+mod VaccineNeeds
+-- Of the crates below
+pub use Rattle.rules_definitions.proofs.FindingLaws
+pub use Rattle.rules_definitions.proofs.AreaLaws
+pub use Rattle.rules_definitions.proofs.BlockLaws
+pub use Rattle.rules_walk.proofs.PassLaws
+pub use Rattle.rules_walk.proofs.SizeLaws
+pub use Rattle.rules_walk.proofs.TypeLaws
+pub use Rattle.rules_walk.proofs.OverLaws

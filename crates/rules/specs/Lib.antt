@@ -1,10 +1,19 @@
-pub mod Forms
-pub mod Places
-pub mod Blocks
-pub mod Seen
-pub mod Codes
-pub mod Rules
-pub mod Findings
-pub mod Claims
-pub mod FileE
-pub mod Edges
+-- What judging a file leaves, and working definitions for the crate's own functions; the meaning of what is judged stands in
+-- crates/rules_definitions/specs.
+-- Assumes nothing.
+pub mod Judged
+pub mod Inside
+pub mod Walk
+pub mod Look
+pub mod Fields
+-- Of the crates below: what the rules, blocks and findings are, and the index of blocks
+pub use Rattle.rules_definitions.specs.Forms
+pub use Rattle.rules_definitions.specs.Places
+pub use Rattle.rules_definitions.specs.Blocks
+pub use Rattle.rules_definitions.specs.Seen
+pub use Rattle.rules_definitions.specs.Codes
+pub use Rattle.rules_definitions.specs.Rules
+pub use Rattle.rules_definitions.specs.Findings
+pub use Rattle.rules_definitions.specs.Claims
+pub use Rattle.rules_definitions.specs.FileE
+pub use Rattle.rules_walk.specs.Firsts

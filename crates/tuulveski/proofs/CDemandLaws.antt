@@ -10,8 +10,8 @@ use Rattle.answers.specs.declared.Answer.{Answer}
 use Rattle.answers.specs.declared.Answer.the-variants.{Accepted, Date, Long, Book, Ledger, Shape as BadShape, Findings, Full}
 use Rattle.answers.specs.Answers.{Lent, Outcome, check, numbersOf}
 use Rattle.tuulveski.specs.CDemands.{CGives, CMeets}
-use Rattle.tuulveski.proofs.DemandLaws.{same-outcome}
-use Rattle.tuulveski.proofs.CodeLaws.{meets}
+use Rattle.demands.proofs.DemandLaws.{same-outcome}
+use Rattle.demands.proofs.CodeLaws.{meets}
 
 -- the answer that numbers tell
 answerOf : List ℕ → Answer

@@ -1,11 +1,5 @@
-pub mod Cases
-pub mod AnswerLaws
-pub mod FileLaws
-pub mod RunLaws
-pub mod DemandLaws
-pub mod CodeLaws
-pub mod CDemandLaws
 pub mod NumberLaws
+pub mod CDemandLaws
 -- What the functions' own needs ask
 mod InterfaceNeeds
 -- No second answer

@@ -21,13 +21,13 @@ use Rattle.rules.specs.Blocks.{beginsBlock, eventOf, eventsOf, adds, changes, d
 use Rattle.rules.specs.Seen.{Setting, Seen, seenAt}
 use Rattle.rules.specs.Rules.{Numbered, rules, rulesIn, rulesOf, brokenBy, brokenAt}
 use Rattle.rules.specs.Findings.{found, fieldsFindings, lineFindings, findingsOf}
-use Rattle.index.proofs.PassLaws.{by-lines, recs-first}
+use Rattle.rules.proofs.PassLaws.{by-lines, recs-first}
 use Rattle.answers.specs.declared.Answer.{Answer}
 use Rattle.answers.specs.declared.Answer.the-variants.{Accepted, Date, Long, Book, Ledger, Shape as BadShape, Findings, Full}
 use Rattle.answers.specs.Answers.{Lent, settingOf, findings, added, changed, deleted, notImmunized, check}
-use Rattle.tuulveski.specs.Demands.{Due}
+use Rattle.demands.specs.Demands.{Due}
 use Rattle.tuulveski.specs.Inside.{Narrow}
-use Rattle.tuulveski.proofs.AnswerLaws.{given-due, only-findings}
+use Rattle.demands.proofs.AnswerLaws.{given-due, only-findings}
 
 -- 1. Lines
 

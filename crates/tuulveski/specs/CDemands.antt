@@ -6,7 +6,7 @@ use Rattle.answers.specs.declared.Answer.{Answer}
 use Rattle.answers.specs.Answers.{Lent, Outcome, numbersOf}
 use Rattle.tuulveski.specs.declared.interface.Numbers.{Numbers}
 use Rattle.tuulveski.specs.Interface.{numbersIn, GivesNumbers}
-use Rattle.tuulveski.specs.Demands.{Demands}
+use Rattle.demands.specs.Demands.{Demands}
 
 -- the numbers tell this answer
 abbrev pub Tell : Numbers → Answer → Type 0

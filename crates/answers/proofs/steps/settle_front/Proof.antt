@@ -1,6 +1,6 @@
 -- `answers::steps::settle_front` meets its contract.
 -- Assumes nothing.
-use Rattle.answers.proofs.SettleNeeds.{for-settle-front}
+use Rattle.answers.proofs.SettledNeeds.{for-settle-front}
 use Rattle.answers.proofs.steps.settle_front.Statement.{statement}
 use Rattle.answers.proofs.steps.settle_front.Tie as tie
 

@@ -4,7 +4,7 @@ use Rattle.lines.proofs.FaultNeeds.{for-shape-of}
 use Prim.Native.Nat.{_-_, _≤_, _+_}
 use mathlib.Core.Path.{_≡_}
 use lib.ListN.{length, drop}
-use Rattle.lines.specs.Lines.{linesOf}
+use Rattle.lines_fields.specs.Lines.{linesOf}
 use Rattle.lines.specs.Shape.{shapeFrom, shapeOf}
 use Rattle.lines.proofs.faults.shape_of.Statement.{statement}
 use Rattle.lines.proofs.faults.shape_of.Tie as tie

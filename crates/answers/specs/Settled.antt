@@ -1,0 +1,34 @@
+-- What settling the blocks of an index leaves, for any bytes and places that are lent: whether there was room, the ledger, and the index.
+-- Assumes nothing.
+use Prim.Native.Nat.{ℕ, _+_}
+use mathlib.Core.Bool.{Bool, cond, _&&_}
+use mathlib.Core.List.{List}
+use lib.ListN.{length}
+use lib.Dec.{leb}
+use Rattle.house.specs.Text.{Text}
+use Rattle.lines.specs.Sorted.{placesMost}
+use Rattle.ledger.specs.Ledger.{slotsIn, updated}
+use Rattle.rules.specs.Firsts.{over, partOf}
+use Rattle.answers.specs.declared.settle.Counts.{Counts}
+use Rattle.answers.specs.declared.settle.Settled.{Settled}
+use Rattle.answers.specs.declared.settle.Settled.the-variants.{Done, NoRoom}
+
+-- how many of the blocks at these places add, change and delete
+unfoldable pub countsOf : Text → List ℕ → Counts
+countsOf f ps = record { added = length (partOf f 65 ps); changed = length (partOf f 67 ps); deleted = length (partOf f 68 ps) }
+
+-- the places are not too many, and with n live events those that add have room in the ledger's slots and in those that the deletes free
+unfoldable pub hasRoom : Text → Text → ℕ → List ℕ → Bool
+hasRoom f ledger n ps =
+    leb (length ps) placesMost && leb (n + length (partOf f 65 ps)) (slotsIn ledger + length (partOf f 68 ps))
+
+unfoldable pub settledOf : Text → Text → ℕ → List ℕ → Settled
+settledOf f ledger n ps = cond (hasRoom f ledger n ps) (Done (countsOf f ps)) NoRoom
+
+-- the ledger after; as it was where there is no room
+unfoldable pub settledLedger : Text → Text → ℕ → List ℕ → Text
+settledLedger f ledger n ps = cond (hasRoom f ledger n ps) (updated ledger f (partOf f 65 ps) (partOf f 68 ps)) ledger
+
+-- the index after: the places of those that add at its front; as it was where there is no room
+unfoldable pub settledIndex : Text → Text → ℕ → List ℕ → List ℕ
+settledIndex f ledger n ps = cond (hasRoom f ledger n ps) (over (partOf f 65 ps) ps) ps

@@ -1,0 +1,127 @@
+// A file without findings is settled by the index of its blocks: they are counted, room is looked for, and the ledger is brought up to date.
+ghost use mathlib.Core.Path.{_≡_};
+ghost use Prim.Native.Nat.{_≤_};
+ghost use lib.ListN.{length};
+ghost use Rattle.ledger.specs.Ledger.{updated};
+ghost use Rattle.rules.specs.Firsts.{over, partOf};
+ghost use Rattle.answers.specs.Settled.{countsOf, settledOf, settledLedger, settledIndex};
+
+// How many blocks add, change and delete.
+pub(crate) struct Counts {
+    pub added: usize,
+    pub changed: usize,
+    pub deleted: usize,
+}
+
+// Whether the ledger has been brought up to date.
+pub(crate) enum Settled {
+    Done(Counts),
+    NoRoom,
+}
+
+// Brings the ledger up to date by the index of the blocks and the places of those deleted. The index keeps the places of those added.
+fn renew_by(file: &[u8], ledger: &mut [u8], index: &mut [u32], deletes: &[u32])
+    ensures { λ _. ⌜ now (ledger .exit) ≡ updated (now (ledger .entry)) (now (file .entry)) (partOf (now (file .entry)) 65 (now (index .entry))) (now (deletes .entry)) ⌝ }
+    ensures { λ _. ⌜ now (index .exit) ≡ over (partOf (now (file .entry)) 65 (now (index .entry))) (now (index .entry)) ⌝ }
+{
+    let from = 0;
+    let a = rules::keep(file, index, b'A');
+    ledger::update(ledger, file, &index[from..a], deletes);
+}
+
+// The same, in a room for the places of those deleted.
+fn renew_in(file: &[u8], ledger: &mut [u8], index: &mut [u32], deletes: &mut [u32])
+    requires { ⌜ length (now index) ≤ length (now deletes) ⌝ }
+    ensures { λ _. ⌜ now (ledger .exit) ≡ updated (now (ledger .entry)) (now (file .entry)) (partOf (now (file .entry)) 65 (now (index .entry))) (partOf (now (file .entry)) 68 (now (index .entry))) ⌝ }
+    ensures { λ _. ⌜ now (index .exit) ≡ over (partOf (now (file .entry)) 65 (now (index .entry))) (now (index .entry)) ⌝ }
+{
+    let from = 0;
+    let d = rules::part_of(file, index, b'D', deletes);
+    renew_by(file, ledger, index, &deletes[from..d]);
+}
+
+// The same, in a room of its own.
+fn renew_parts(file: &[u8], ledger: &mut [u8], index: &mut [u32])
+    requires { ⌜ length (now index) ≤ 96154 ⌝ }
+    ensures { λ _. ⌜ now (ledger .exit) ≡ updated (now (ledger .entry)) (now (file .entry)) (partOf (now (file .entry)) 65 (now (index .entry))) (partOf (now (file .entry)) 68 (now (index .entry))) ⌝ }
+    ensures { λ _. ⌜ now (index .exit) ≡ over (partOf (now (file .entry)) 65 (now (index .entry))) (now (index .entry)) ⌝ }
+{
+    let mut deletes = [0u32; 96154];
+    renew_in(file, ledger, index, &mut deletes);
+}
+
+// Brings the ledger up to date by the index of the blocks, so many of which add. Where all do, their places are the index as it is.
+fn renew(file: &[u8], ledger: &mut [u8], index: &mut [u32], added: usize)
+    requires { ⌜ added ≡ length (partOf (now file) 65 (now index)) ⌝ }
+    requires { ⌜ length (now index) ≤ 96154 ⌝ }
+    ensures { λ _. ⌜ now (ledger .exit) ≡ updated (now (ledger .entry)) (now (file .entry)) (partOf (now (file .entry)) 65 (now (index .entry))) (partOf (now (file .entry)) 68 (now (index .entry))) ⌝ }
+    ensures { λ _. ⌜ now (index .exit) ≡ over (partOf (now (file .entry)) 65 (now (index .entry))) (now (index .entry)) ⌝ }
+{
+    if added == index.len() {
+        let all = &index[..];
+        ledger::update(ledger, file, all, &all[..0]);
+    } else {
+        renew_parts(file, ledger, index);
+    }
+}
+
+// How many blocks add, change and delete, by the index of the blocks.
+fn count_types(file: &[u8], index: &[u32]) -> Counts
+    requires { ⌜ length (now index) ≤ 96154 ⌝ }
+    ensures { λ r. ⌜ r ≡ countsOf (now (file .entry)) (now (index .entry)) ⌝ }
+    ensures { λ r. ⌜ r .added ≤ 96154 ⌝ }
+    ensures { λ r. ⌜ r .deleted ≤ 96154 ⌝ }
+{
+    let added = rules::count_of(file, index, b'A');
+    if added == index.len() {
+        return Counts {
+            added,
+            changed: 0,
+            deleted: 0,
+        };
+    }
+    let changed = rules::count_of(file, index, b'C');
+    let deleted = rules::count_of(file, index, b'D');
+    Counts {
+        added,
+        changed,
+        deleted,
+    }
+}
+
+// How many blocks add, change and delete, if the index has 96154 places at most and the ledger, with so many live events, room for what they add.
+fn room_for(file: &[u8], ledger: &[u8], live: usize, index: &[u32]) -> Settled
+    ensures { λ r. ⌜ r ≡ settledOf (now (file .entry)) (now (ledger .entry)) live (now (index .entry)) ⌝ }
+{
+    if 96154 < index.len() {
+        return Settled::NoRoom;
+    }
+    let n = count_types(file, index);
+    let added = n.added;
+    let deleted = n.deleted;
+    let room = ledger.len() / 38 + deleted;
+    if room < live {
+        return Settled::NoRoom;
+    }
+    if room < live + added {
+        return Settled::NoRoom;
+    }
+    Settled::Done(n)
+}
+
+// Settles the blocks of an index, over a ledger with so many live events. Where there is no room, all stays as it is.
+pub(crate) fn settle(file: &[u8], ledger: &mut [u8], live: usize, index: &mut [u32]) -> Settled
+    ensures { λ r. ⌜ r ≡ settledOf (now (file .entry)) (now (ledger .entry)) live (now (index .entry)) ⌝ }
+    ensures { λ _. ⌜ now (ledger .exit) ≡ settledLedger (now (file .entry)) (now (ledger .entry)) live (now (index .entry)) ⌝ }
+    ensures { λ _. ⌜ now (index .exit) ≡ settledIndex (now (file .entry)) (now (ledger .entry)) live (now (index .entry)) ⌝ }
+{
+    let s = room_for(file, ledger, live, index);
+    match s {
+        Settled::Done(n) => {
+            let added = n.added;
+            renew(file, ledger, index, added);
+            Settled::Done(n)
+        }
+        Settled::NoRoom => Settled::NoRoom,
+    }
+}

@@ -1,3 +1,0 @@
--- Working definitions of the functions on blocks.
--- Assumes nothing.
-pub mod From

@@ -1,4 +1,0 @@
--- What the functions on the later rules answer; the rules themselves stand in crates/rules/specs.
--- Assumes nothing.
-pub mod Look
-pub mod Fields

@@ -1,0 +1,78 @@
+-- A field's text is the part of the file that starts at its position, and a line's fields go on from there.
+-- Assumes nothing.
+use mathlib.Core.Path.{_≡_, refl, sym, ap, _∙_}
+use mathlib.Core.Bool.{Bool, true, false}
+use mathlib.Core.List.{[]}
+use Prim.Native.Nat.{ℕ, zero, suc, _+_, _-_, _≤_, _<_}
+use native.Mathlib.Nat.{add-sub-cancel-left}
+use native.Mathlib.Numerals.{sub-one}
+use native.Mathlib.Omega.{arith}
+use borrow.Author.Tests.{ltb-true, ltb-false}
+use lib.Dec.{ltb}
+use lib.ListN.{length, getD, take, drop, length-drop}
+use lib.Seq.{length-take-le, take-take, drop-drop, getD-drop}
+use Rattle.house.specs.Text.{Text}
+use Rattle.house.proofs.Small.{clash}
+use Rattle.lines_fields.specs.Lines.{lineOf, textLen, fieldsOf, fieldOf, textAt, fieldText, fieldThere, linesLen, fieldsLen, fieldPosition}
+use Rattle.lines_fields.specs.Inside.{part, pipeLen}
+use Rattle.lines_fields.proofs.LineLaws.{text-is, text-after, text-from}
+use Rattle.lines_fields.proofs.FieldLaws.{fields-first, fields-none, fields-after, fields-le, field-first}
+use Rattle.lines_fields.proofs.CutLaws.{part-drop}
+
+-- a text behind its first k fields
+abbrev behind : ℕ → Text → Text
+behind k t = drop (fieldsLen k t) t
+
+-- field k + 1 of a text
+module _ (t : Text) (k : ℕ) (h : k < length (fieldsOf t)) where
+  closed : pipeLen (behind k t) < length (behind k t)
+  closed = go (ltb (pipeLen (behind k t)) (length (behind k t))) refl
+    where
+      go : (b : Bool) → ltb (pipeLen (behind k t)) (length (behind k t)) ≡ b → pipeLen (behind k t) < length (behind k t)
+      go true e = ltb-true _ _ e
+      go false e =
+          let n : length (fieldsOf (behind k t)) ≡ 0 = rw (fields-none (behind k t) (ltb-false _ _ e)) in
+          absurd (omega (arith, n, ap length (fields-after k t), length-drop k (fieldsOf t)))
+
+  field-cut : getD (fieldsOf t) k [] ≡ take (pipeLen (behind k t)) (behind k t)
+  field-cut = field-first k t ∙ rw (fields-first (behind k t) closed)
+
+  field-long : length (getD (fieldsOf t) k []) ≡ pipeLen (behind k t)
+  field-long = rw field-cut (length-take-le (pipeLen (behind k t)) (behind k t) (omega (arith, closed)))
+
+-- what is cut out of the front of a text is cut out of the text
+front-cut : (v : Text) (l b p : ℕ) → p ≤ l - b → take p (drop b (take l v)) ≡ take p (drop b v)
+front-cut v l b p h = rw (← part-drop v b l) (take-take p (l - b) (drop b v) h)
+
+-- field k + 1 of a text of l bytes that stands at position a of a file
+cut-there : (s t : Text) (a l k : ℕ) → t ≡ take l (drop a s) → length t ≡ l → k < length (fieldsOf t)
+    → getD (fieldsOf t) k [] ≡ take (length (getD (fieldsOf t) k [])) (drop (a + fieldsLen k t) s)
+cut-there s t a l k e n h =
+    let q : pipeLen (behind k t) ≤ l - fieldsLen k t = omega (arith, closed t k h, length-drop (fieldsLen k t) t) in
+    rw (field-long t k h)
+    (field-cut t k h ∙ ap (λ (x : Text). take (pipeLen (behind k t)) (drop (fieldsLen k t) x)) e ∙ front-cut (drop a s) l (fieldsLen k t) (pipeLen (behind k t)) q ∙ rw drop-drop)
+
+position : (s : Text) (m k : ℕ) → fieldThere s (suc m) (suc k) ≡ true → fieldPosition s (suc m) (suc k) ≡ linesLen m s + fieldsLen k (textAt s (suc m))
+unfolding fieldPosition
+position s m k h = rw (h, sub-one, sub-one)
+
+pub position-cut : (s : Text) (n f : ℕ) → fieldThere s n f ≡ true → part s (fieldPosition s n f) (fieldPosition s n f + length (fieldText s n f)) ≡ fieldText s n f
+unfolding fieldThere fieldText fieldOf textAt fieldsOf textLen
+position-cut s n zero h = clash (cc)
+position-cut s zero (suc k) h = absurd (omega (arith, ltb-true k 0 h))
+position-cut s (suc m) (suc k) h =
+    let i : textAt s (suc m) ≡ lineOf (drop (linesLen m s) s) .text = text-after s (suc m) (λ z. omega arith) ∙ rw sub-one in
+    rw (add-sub-cancel-left, position s m k h)
+    (sym (cut-there s (textAt s (suc m)) (linesLen m s) (textLen (drop (linesLen m s) s)) k (i ∙ text-is (drop (linesLen m s) s)) (ap length i) (ltb-true _ _ h)))
+
+-- from where the field after k fields of a line starts, the line goes on with the fields that follow these
+module _ (s : Text) (at k a : ℕ) (p : a ≡ at + fieldsLen k (lineOf (drop at s) .text)) where
+  rest-on : lineOf (drop a s) .text ≡ behind k (lineOf (drop at s) .text)
+  unfolding textLen
+  rest-on =
+      ap (λ (n : ℕ). lineOf (drop n s) .text) p ∙ ap (λ (t : Text). lineOf t .text) (sym (drop-drop (fieldsLen k (lineOf (drop at s) .text)) at s))
+      ∙ text-from (fieldsLen k (lineOf (drop at s) .text)) (drop at s) (fields-le k (lineOf (drop at s) .text))
+
+  pub field-on : (f : ℕ) → fieldOf (lineOf (drop a s) .text) (suc f) ≡ fieldOf (lineOf (drop at s) .text) (suc (k + f))
+  unfolding fieldOf
+  field-on f = rw (rest-on, fields-after, getD-drop)

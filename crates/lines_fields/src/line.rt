@@ -1,0 +1,132 @@
+// The lines of a file: where each starts and ends.
+use crate::LineAt;
+ghost use mathlib.Core.Path.{_≡_};
+ghost use Prim.Native.Nat.{_≤_, _+_, _-_};
+ghost use lib.ListN.{drop, length};
+ghost use Rattle.lines_fields.specs.Lines.{endingOf, textLen, LineIs, textAt, linesLen};
+ghost use Rattle.lines_fields.specs.Inside.{lesserOf, leastOf};
+
+// How many bytes the line ending at a position has, 0 for none.
+pub(crate) fn ending(file: &[u8], at: usize) -> usize
+    ensures { λ r. ⌜ r ≡ endingOf (drop at (now (file .entry))) ⌝ }
+    ensures { λ r. ⌜ r ≤ length (now (file .entry)) - at ⌝ }
+{
+    if file.len() <= at {
+        return 0;
+    }
+    let b = file[at];
+    if b == b'\n' {
+        return 1;
+    }
+    if b != b'\r' {
+        return 0;
+    }
+    let n = at + 1;
+    if file.len() <= n {
+        return 0;
+    }
+    if file[n] != b'\n' {
+        return 0;
+    }
+    2
+}
+
+// The lesser of two bytes.
+pub fn lesser(a: u8, b: u8) -> u8
+    ensures { λ r. ⌜ r ≡ lesserOf a b ⌝ }
+{
+    if b < a {
+        return b;
+    }
+    a
+}
+
+// The least byte of a text, 255 for none.
+fn least(text: &[u8]) -> u8
+    ensures { λ r. ⌜ r ≡ leastOf (now (text .entry)) ⌝ }
+{
+    let mut low: u8 = 255;
+    let mut i = 0;
+    while i < text.len() {
+        low = lesser(low, text[i]);
+        i += 1;
+    }
+    low
+}
+
+// A position up to which no line ends that goes on at another: sixteen bytes at a time are passed over, of which the least is no LF and no CR.
+fn plain_from(file: &[u8], at: usize) -> usize
+    ensures { λ r. ⌜ at + textLen (drop at (now (file .entry))) ≡ r + textLen (drop r (now (file .entry))) ⌝ }
+{
+    let mut i = at;
+    while i < file.len() {
+        if file.len() - i < 16 {
+            return i;
+        }
+        let e = i + 16;
+        if least(&file[i..e]) < 14 {
+            return i;
+        }
+        i = e;
+    }
+    i
+}
+
+// Where the text of the line that starts at a position ends.
+fn text_end(file: &[u8], at: usize) -> usize
+    ensures { λ r. ⌜ r ≡ at + textLen (drop at (now (file .entry))) ⌝ }
+{
+    let mut i = plain_from(file, at);
+    while i < file.len() {
+        if file[i] < 14 {
+            let n = ending(file, i);
+            if n != 0 {
+                return i;
+            }
+        }
+        i += 1;
+    }
+    i
+}
+
+// The line that starts at a position.
+pub fn line_at(file: &[u8], at: usize) -> LineAt
+    ensures { λ r. ⌜ LineIs (now (file .entry)) at r ⌝ }
+{
+    let end = text_end(file, at);
+    let n = ending(file, end);
+    LineAt {
+        end,
+        next: end + n,
+        lf: n != 0,
+    }
+}
+
+// Where the line behind k lines starts; the file's end where there is none.
+pub(crate) fn line_start(file: &[u8], k: usize) -> usize
+    ensures { λ r. ⌜ r ≡ linesLen k (now (file .entry)) ⌝ }
+    ensures { λ r. ⌜ r ≤ length (now (file .entry)) ⌝ }
+{
+    let mut at = 0;
+    let mut left = k;
+    while at < file.len() {
+        if left == 0 {
+            return at;
+        }
+        at = line_at(file, at).next;
+        left -= 1;
+    }
+    at
+}
+
+// The text of line n, counted from 1; empty where there is none.
+pub(crate) fn line_text(file: &[u8], n: usize) -> &[u8]
+    ensures { λ r. ⌜ now r ≡ textAt (now (file .entry)) n ⌝ }
+{
+    if n == 0 {
+        return &file[..0];
+    }
+    let at = line_start(file, n - 1);
+    let end = line_at(file, at).end;
+    &file[at..end]
+}

@@ -1,0 +1,258 @@
+-- Which rules remain at a field of a kind.
+-- Assumes nothing.
+use mathlib.Core.Path.{_≡_, refl}
+use mathlib.Core.Bool.{Bool, true, false, not, cond, _&&_, _||_}
+use mathlib.Core.List.{List, [], _∷_, _++_}
+use Prim.Native.Nat.{ℕ, _≤_}
+use native.Mathlib.Omega.{arith}
+use borrow.Author.Tests.{ne-eqb, leb-true}
+use lib.Dec.{eqb, leb}
+use Rattle.house.specs.Text.{bytes, same, any, number, isEmpty}
+use Rattle.house.proofs.Small.{clash}
+use Rattle.lines.specs.Records.{Rec, IV, IP, II, IE, IN, IA}
+use Rattle.rules_definitions.specs.Forms.{text, formOf, isJudged, isOptional, isMissing, isMisformed, isSound, isGiven}
+use Rattle.rules_definitions.specs.Places.{isNumbered}
+use Rattle.rules_definitions.specs.Seen.{Setting, Seen}
+use Rattle.rules_definitions.specs.Blocks.{adds, changes, deletes}
+use Rattle.rules_definitions.specs.Codes.{isSite, isMethod, bookKind, isCodeField, codeIn, isKnown, dayIsSound, isInForce}
+use Rattle.rules_definitions.specs.Rules.{rule1, rule2, rule3, rule4, rule5, rule6, rule7, rule8, rule9, rule10, rule11, rule12, rule13, rule14, rule15, rule16, rule17, rule18, asks, afterToday, beforeBirth, sameLot, rules, rulesIn, rulesOf, brokenAt}
+use Rattle.rules.specs.Inside.{some}
+use Rattle.rules_forms.specs.FieldLeaves.{lowest}
+use Rattle.rules_fields.specs.Fields.{codeLater}
+use Rattle.rules.specs.Fields.{laterAt}
+
+abbrev pub when : Bool → ℕ → List ℕ
+when p n = cond p (n ∷ []) []
+
+pub one-rule : (n : ℕ) → eqb n 0 ≡ false → (p : Bool) → when p n ≡ some (cond p n 0)
+one-rule n h true = simp h
+one-rule n h false = refl
+
+-- RULES 1 AND 2
+
+-- never both
+missing-empty : (k : ℕ) (l : Rec) (f : ℕ) → isMissing k l f ≡ true → isMisformed k l f ≡ false
+unfolding isMissing isMisformed
+missing-empty k l f = go (isJudged k f) (isOptional k l f) (formOf k f (text l f)) (isEmpty (text l f))
+  where
+    go : (j o ok e : Bool) → (j && not o && e) ≡ true → (not ok && not e) ≡ false
+    go j o true e h = refl
+    go j o false true h = refl
+    go true true false false h = clash (cc)
+    go true false false false h = clash (cc)
+    go false o false false h = clash (cc)
+
+split : (m n : Bool) (rest : List ℕ) → (m ≡ true → n ≡ false) → when m 1 ++ (when n 2 ++ rest) ≡ some (cond m 1 (cond n 2 0)) ++ rest
+split true n rest h = rw (h refl)
+split false true rest h = refl
+split false false rest h = refl
+
+pub broken-split : (s : Setting) (v : Seen) (f : ℕ) → brokenAt s v f ≡ some (lowest (v .line .kind) (v .line) f 0) ++ laterAt s v f
+unfolding brokenAt laterAt rulesOf rulesIn rules rule1 rule2 lowest
+broken-split s v f =
+    split (isMissing (v .line .kind) (v .line) f) (isMisformed (v .line .kind) (v .line) f) (laterAt s v f) (missing-empty (v .line .kind) (v .line) f)
+
+-- a later rule that asks for a sound field takes the place of none
+module _ (k : ℕ) (l : Rec) (f : ℕ) (rest : List ℕ) where
+  pub sound-later : (p : Bool) (n : ℕ) → eqb n 0 ≡ false
+      → some (lowest k l f 0) ++ (when (isSound k l f && p) n ++ rest) ≡ some (lowest k l f (cond p n 0)) ++ rest
+  unfolding lowest isSound
+  sound-later p n h = go (isMissing k l f) (isMisformed k l f) p
+    where
+      go : (m w p : Bool) → some (cond m 1 (cond w 2 0)) ++ (when (not m && not w && p) n ++ rest) ≡ some (cond m 1 (cond w 2 (cond p n 0))) ++ rest
+      go true w p = refl
+      go false true p = refl
+      go false false true = rw h
+      go false false false = refl
+
+  -- rules 4 and 5, of a code that is known or not, out of force or not
+  pub code-later : (known out : Bool)
+      → some (lowest k l f 0) ++ (when (isGiven k l f && not (isGiven k l f && known)) 4 ++ (when (isGiven k l f && known && out) 5 ++ rest))
+      ≡ some (lowest k l f (codeLater (isEmpty (text l f)) known out)) ++ rest
+  unfolding lowest isGiven isSound codeLater
+  code-later known out = go (isMissing k l f) (isMisformed k l f) (isEmpty (text l f)) known out
+    where
+      go : (m w e known out : Bool)
+          → some (cond m 1 (cond w 2 0)) ++ (when (not m && not w && not e && not (not m && not w && not e && known)) 4 ++ (when (not m && not w && not e && known && out) 5 ++ rest))
+          ≡ some (cond m 1 (cond w 2 (cond e 0 (cond known (cond out 5 0) 4)))) ++ rest
+      go true w e known out = refl
+      go false true e known out = refl
+      go false false true known out = refl
+      go false false false true true = refl
+      go false false false true false = refl
+      go false false false false out = refl
+
+  -- rule 4 alone, of a site or a method
+  pub site-later : (known : Bool)
+      → some (lowest k l f 0) ++ (when (isGiven k l f && not (isGiven k l f && known)) 4 ++ rest) ≡ some (lowest k l f (codeLater (isEmpty (text l f)) known false)) ++ rest
+  unfolding lowest isGiven isSound codeLater
+  site-later known = go (isMissing k l f) (isMisformed k l f) (isEmpty (text l f)) known
+    where
+      go : (m w e known : Bool)
+          → some (cond m 1 (cond w 2 0)) ++ (when (not m && not w && not e && not (not m && not w && not e && known)) 4 ++ rest)
+          ≡ some (cond m 1 (cond w 2 (cond e 0 (cond known 0 4)))) ++ rest
+      go true w e known = refl
+      go false true e known = refl
+      go false false true known = refl
+      go false false false true = refl
+      go false false false false = refl
+
+-- THE LATER RULES, BY KIND AND FIELD
+
+apart : (lo k : ℕ) → 3 ≤ lo → (k ≡ 3 → ⊥) → (k ≡ 4 → ⊥) → (k ≡ 5 → ⊥) → (k ≡ 6 → ⊥) → (k ≡ 7 → ⊥) → leb lo k && leb k 7 ≡ false
+apart lo k h n3 n4 n5 n6 n7 = go (leb lo k) (leb k 7) refl refl
+  where
+    go : (a b : Bool) → leb lo k ≡ a → leb k 7 ≡ b → a && b ≡ false
+    go true true p q = absurd (omega (arith, leb-true lo k p, leb-true k 7 q))
+    go true false p q = refl
+    go false b p q = refl
+
+-- a rule that asks for a sound field
+abbrev pub sounds : Rec → ℕ → ℕ → Bool → ℕ → List ℕ
+sounds l k f p n = when (isSound k l f && p) n ++ []
+
+-- rules 4 and 5 of a code that is known or not, out of force or not; rule 4 of a site or a method
+abbrev pub codes : Rec → ℕ → ℕ → Bool → Bool → List ℕ → List ℕ
+codes l k f known out rest = when (isGiven k l f && not (isGiven k l f && known)) 4 ++ (when (isGiven k l f && known && out) 5 ++ rest)
+
+abbrev pub sites : Rec → ℕ → Bool → List ℕ → List ℕ
+sites l f known rest = when (isGiven II l f && not (isGiven II l f && known)) 4 ++ rest
+
+-- rules 16 to 18, by the type
+abbrev pub ledgers : Bool → Bool → Bool → Bool → Bool → List ℕ
+ledgers inb a c d live = when (inb && a && live) 16 ++ (when (inb && c && not live) 17 ++ (when (inb && d && not live) 18 ++ []))
+
+module _ (s : Setting) (v : Seen) where
+  abbrev L : Rec
+  L = v .line
+
+  pub iv-2 : v .line .kind ≡ IV → laterAt s v 2 ≡ when (isGiven IV L 2 && not (same (text L 2) (bytes "7.2"))) 3 ++ []
+  unfolding laterAt rulesOf rulesIn rules rule3 rule4 rule5 rule6 rule7 rule8 rule9 rule10 rule11 rule12 rule13 rule14 rule15 rule16 rule17 rule18 asks isNumbered isCodeField bookKind isKnown
+  iv-2 k = rw k
+
+  pub ip-2 : v .line .kind ≡ IP → laterAt s v 2 ≡ sounds L IP 2 (not (eqb (number (text L 2)) (v .place))) 7
+  unfolding laterAt rulesOf rulesIn rules rule3 rule4 rule5 rule6 rule7 rule8 rule9 rule10 rule11 rule12 rule13 rule14 rule15 rule16 rule17 rule18 asks isNumbered isCodeField bookKind isKnown
+  ip-2 k = rw k
+
+  pub ip-25 : v .line .kind ≡ IP → laterAt s v 25 ≡ sounds L IP 25 (afterToday s v 25 || false) 8
+  unfolding laterAt rulesOf rulesIn rules rule3 rule4 rule5 rule6 rule7 rule8 rule9 rule10 rule11 rule12 rule13 rule14 rule15 rule16 rule17 rule18 asks isNumbered isCodeField bookKind isKnown
+  ip-25 k = rw k
+
+  pub ii-2 : v .line .kind ≡ II → laterAt s v 2 ≡ sounds L II 2 (not (eqb (number (text L 2)) (v .place))) 7
+  unfolding laterAt rulesOf rulesIn rules rule3 rule4 rule5 rule6 rule7 rule8 rule9 rule10 rule11 rule12 rule13 rule14 rule15 rule16 rule17 rule18 asks isNumbered isCodeField bookKind isKnown
+  ii-2 k = rw k
+
+  pub ii-3 : v .line .kind ≡ II → laterAt s v 3 ≡ sounds L II 3 (isSound IP (v .ip) 3 && not (same (text L 3) (text (v .ip) 3))) 6
+  unfolding laterAt rulesOf rulesIn rules rule3 rule4 rule5 rule6 rule7 rule8 rule9 rule10 rule11 rule12 rule13 rule14 rule15 rule16 rule17 rule18 asks isNumbered isCodeField bookKind isKnown
+  ii-3 k = rw k
+
+  pub ii-4 : v .line .kind ≡ II → laterAt s v 4 ≡ ledgers (v .in-block) (same (text L 4) adds) (same (text L 4) changes) (same (text L 4) deletes) (v .live)
+  unfolding laterAt rulesOf rulesIn rules rule3 rule4 rule5 rule6 rule7 rule8 rule9 rule10 rule11 rule12 rule13 rule14 rule15 rule16 rule17 rule18 asks isNumbered isCodeField bookKind isKnown
+  ii-4 k = rw k
+
+  pub ii-6 : v .line .kind ≡ II → laterAt s v 6 ≡ sounds L II 6 (afterToday s v 6 || beforeBirth v 6) 8
+  unfolding laterAt rulesOf rulesIn rules rule3 rule4 rule5 rule6 rule7 rule8 rule9 rule10 rule11 rule12 rule13 rule14 rule15 rule16 rule17 rule18 asks isNumbered isCodeField bookKind isKnown
+  ii-6 k = rw k
+
+  pub ii-8 : v .line .kind ≡ II → laterAt s v 8 ≡ codes L II 8 (s .known 1 (codeIn II L 8)) (dayIsSound v && not (isInForce s v 1 (codeIn II L 8))) (when (rule13 s v 8) 13 ++ (when (rule15 s v 8) 15 ++ []))
+  unfolding laterAt rulesOf rulesIn rules rule3 rule4 rule5 rule6 rule7 rule8 rule9 rule10 rule11 rule12 rule13 rule14 rule15 rule16 rule17 rule18 asks isNumbered isCodeField bookKind isKnown
+  ii-8 k = rw k
+
+  pub ii-9 : v .line .kind ≡ II → laterAt s v 9 ≡ sites L 9 (isSite (text L 9)) (when (rule9 s v 9) 9 ++ (when (rule10 s v 9) 10 ++ []))
+  unfolding laterAt rulesOf rulesIn rules rule3 rule4 rule5 rule6 rule7 rule8 rule9 rule10 rule11 rule12 rule13 rule14 rule15 rule16 rule17 rule18 asks isNumbered isCodeField bookKind isKnown
+  ii-9 k = rw k
+
+  pub ii-10 : v .line .kind ≡ II → laterAt s v 10 ≡ sites L 10 (isMethod (text L 10)) (when (rule9 s v 10) 9 ++ (when (rule10 s v 10) 10 ++ []))
+  unfolding laterAt rulesOf rulesIn rules rule3 rule4 rule5 rule6 rule7 rule8 rule9 rule10 rule11 rule12 rule13 rule14 rule15 rule16 rule17 rule18 asks isNumbered isCodeField bookKind isKnown
+  ii-10 k = rw k
+
+  pub ii-11 : v .line .kind ≡ II → laterAt s v 11 ≡ codes L II 11 (s .known 3 (codeIn II L 11)) (dayIsSound v && not (isInForce s v 3 (codeIn II L 11))) (when (rule11 s v 11) 11 ++ [])
+  unfolding laterAt rulesOf rulesIn rules rule3 rule4 rule5 rule6 rule7 rule8 rule9 rule10 rule11 rule12 rule13 rule14 rule15 rule16 rule17 rule18 asks isNumbered isCodeField bookKind isKnown
+  ii-11 k = rw k
+
+  pub ii-12 : v .line .kind ≡ II → laterAt s v 12 ≡ when (rule10 s v 12) 10 ++ []
+  unfolding laterAt rulesOf rulesIn rules rule3 rule4 rule5 rule6 rule7 rule8 rule9 rule10 rule11 rule12 rule13 rule14 rule15 rule16 rule17 rule18 asks isNumbered isCodeField bookKind isKnown
+  ii-12 k = rw k
+
+  pub ii-13 : v .line .kind ≡ II → laterAt s v 13 ≡ codes L II 13 (s .known 5 (codeIn II L 13)) (dayIsSound v && not (isInForce s v 5 (codeIn II L 13))) (when (rule10 s v 13) 10 ++ [])
+  unfolding laterAt rulesOf rulesIn rules rule3 rule4 rule5 rule6 rule7 rule8 rule9 rule10 rule11 rule12 rule13 rule14 rule15 rule16 rule17 rule18 asks isNumbered isCodeField bookKind isKnown
+  ii-13 k = rw k
+
+  pub ii-14 : v .line .kind ≡ II → laterAt s v 14 ≡ codes L II 14 (s .known 4 (codeIn II L 14)) (dayIsSound v && not (isInForce s v 4 (codeIn II L 14))) ([])
+  unfolding laterAt rulesOf rulesIn rules rule3 rule4 rule5 rule6 rule7 rule8 rule9 rule10 rule11 rule12 rule13 rule14 rule15 rule16 rule17 rule18 asks isNumbered isCodeField bookKind isKnown
+  ii-14 k = rw k
+
+  pub ii-15 : v .line .kind ≡ II → laterAt s v 15 ≡ sounds L II 15 (any (sameLot L) (v .block)) 14
+  unfolding laterAt rulesOf rulesIn rules rule3 rule4 rule5 rule6 rule7 rule8 rule9 rule10 rule11 rule12 rule13 rule14 rule15 rule16 rule17 rule18 asks isNumbered isCodeField bookKind isKnown
+  ii-15 k = rw k
+
+  pub ie-2 : v .line .kind ≡ IE → laterAt s v 2 ≡ sounds L IE 2 (not (eqb (number (text L 2)) (v .place))) 7
+  unfolding laterAt rulesOf rulesIn rules rule3 rule4 rule5 rule6 rule7 rule8 rule9 rule10 rule11 rule12 rule13 rule14 rule15 rule16 rule17 rule18 asks isNumbered isCodeField bookKind isKnown
+  ie-2 k = rw k
+
+  pub ie-3 : v .line .kind ≡ IE → laterAt s v 3 ≡ sounds L IE 3 (isSound IP (v .ip) 3 && not (same (text L 3) (text (v .ip) 3))) 6
+  unfolding laterAt rulesOf rulesIn rules rule3 rule4 rule5 rule6 rule7 rule8 rule9 rule10 rule11 rule12 rule13 rule14 rule15 rule16 rule17 rule18 asks isNumbered isCodeField bookKind isKnown
+  ie-3 k = rw k
+
+  pub ie-4 : v .line .kind ≡ IE → laterAt s v 4 ≡ codes L IE 4 (s .known 2 (codeIn IE L 4)) (dayIsSound v && not (isInForce s v 2 (codeIn IE L 4))) (when (rule11 s v 4) 11 ++ (when (rule12 s v 4) 12 ++ []))
+  unfolding laterAt rulesOf rulesIn rules rule3 rule4 rule5 rule6 rule7 rule8 rule9 rule10 rule11 rule12 rule13 rule14 rule15 rule16 rule17 rule18 asks isNumbered isCodeField bookKind isKnown
+  ie-4 k = rw k
+
+  pub in-2 : v .line .kind ≡ IN → laterAt s v 2 ≡ sounds L IN 2 (not (eqb (number (text L 2)) (v .place))) 7
+  unfolding laterAt rulesOf rulesIn rules rule3 rule4 rule5 rule6 rule7 rule8 rule9 rule10 rule11 rule12 rule13 rule14 rule15 rule16 rule17 rule18 asks isNumbered isCodeField bookKind isKnown
+  in-2 k = rw k
+
+  pub in-3 : v .line .kind ≡ IN → laterAt s v 3 ≡ sounds L IN 3 (isSound IP (v .ip) 3 && not (same (text L 3) (text (v .ip) 3))) 6
+  unfolding laterAt rulesOf rulesIn rules rule3 rule4 rule5 rule6 rule7 rule8 rule9 rule10 rule11 rule12 rule13 rule14 rule15 rule16 rule17 rule18 asks isNumbered isCodeField bookKind isKnown
+  in-3 k = rw k
+
+  pub in-5 : v .line .kind ≡ IN → laterAt s v 5 ≡ sounds L IN 5 (afterToday s v 5 || beforeBirth v 5) 8
+  unfolding laterAt rulesOf rulesIn rules rule3 rule4 rule5 rule6 rule7 rule8 rule9 rule10 rule11 rule12 rule13 rule14 rule15 rule16 rule17 rule18 asks isNumbered isCodeField bookKind isKnown
+  in-5 k = rw k
+
+  pub in-6 : v .line .kind ≡ IN → laterAt s v 6 ≡ codes L IN 6 (s .known 6 (codeIn IN L 6)) (dayIsSound v && not (isInForce s v 6 (codeIn IN L 6))) ([])
+  unfolding laterAt rulesOf rulesIn rules rule3 rule4 rule5 rule6 rule7 rule8 rule9 rule10 rule11 rule12 rule13 rule14 rule15 rule16 rule17 rule18 asks isNumbered isCodeField bookKind isKnown
+  in-6 k = rw k
+
+  pub ia-2 : v .line .kind ≡ IA → laterAt s v 2 ≡ sounds L IA 2 (not (eqb (number (text L 2)) (v .place))) 7
+  unfolding laterAt rulesOf rulesIn rules rule3 rule4 rule5 rule6 rule7 rule8 rule9 rule10 rule11 rule12 rule13 rule14 rule15 rule16 rule17 rule18 asks isNumbered isCodeField bookKind isKnown
+  ia-2 k = rw k
+
+  pub ia-3 : v .line .kind ≡ IA → laterAt s v 3 ≡ sounds L IA 3 (isSound IP (v .ip) 3 && not (same (text L 3) (text (v .ip) 3))) 6
+  unfolding laterAt rulesOf rulesIn rules rule3 rule4 rule5 rule6 rule7 rule8 rule9 rule10 rule11 rule12 rule13 rule14 rule15 rule16 rule17 rule18 asks isNumbered isCodeField bookKind isKnown
+  ia-3 k = rw k
+
+  pub ia-4 : v .line .kind ≡ IA → laterAt s v 4 ≡ codes L IA 4 (s .known 2 (codeIn IA L 4)) (dayIsSound v && not (isInForce s v 2 (codeIn IA L 4))) ([])
+  unfolding laterAt rulesOf rulesIn rules rule3 rule4 rule5 rule6 rule7 rule8 rule9 rule10 rule11 rule12 rule13 rule14 rule15 rule16 rule17 rule18 asks isNumbered isCodeField bookKind isKnown
+  ia-4 k = rw k
+
+  pub iv-rest : (f : ℕ) → v .line .kind ≡ IV → (f ≡ 2 → ⊥) → laterAt s v f ≡ []
+  unfolding laterAt rulesOf rulesIn rules rule3 rule4 rule5 rule6 rule7 rule8 rule9 rule10 rule11 rule12 rule13 rule14 rule15 rule16 rule17 rule18 asks isNumbered isCodeField bookKind isKnown
+  iv-rest f k n2 = rw k (simp (ne-eqb f 2 n2))
+
+  pub ip-rest : (f : ℕ) → v .line .kind ≡ IP → (f ≡ 2 → ⊥) → (f ≡ 25 → ⊥) → laterAt s v f ≡ []
+  unfolding laterAt rulesOf rulesIn rules rule3 rule4 rule5 rule6 rule7 rule8 rule9 rule10 rule11 rule12 rule13 rule14 rule15 rule16 rule17 rule18 asks isNumbered isCodeField bookKind isKnown
+  ip-rest f k n2 n25 = rw k (simp (ne-eqb f 2 n2, ne-eqb f 25 n25))
+
+  pub ii-rest : (f : ℕ) → v .line .kind ≡ II → (f ≡ 2 → ⊥) → (f ≡ 3 → ⊥) → (f ≡ 4 → ⊥) → (f ≡ 6 → ⊥) → (f ≡ 8 → ⊥) → (f ≡ 9 → ⊥) → (f ≡ 10 → ⊥) → (f ≡ 11 → ⊥) → (f ≡ 12 → ⊥) → (f ≡ 13 → ⊥) → (f ≡ 14 → ⊥) → (f ≡ 15 → ⊥) → laterAt s v f ≡ []
+  unfolding laterAt rulesOf rulesIn rules rule3 rule4 rule5 rule6 rule7 rule8 rule9 rule10 rule11 rule12 rule13 rule14 rule15 rule16 rule17 rule18 asks isNumbered isCodeField bookKind isKnown
+  ii-rest f k n2 n3 n4 n6 n8 n9 n10 n11 n12 n13 n14 n15 = rw k (simp (ne-eqb f 2 n2, ne-eqb f 3 n3, ne-eqb f 4 n4, ne-eqb f 6 n6, ne-eqb f 8 n8, ne-eqb f 9 n9, ne-eqb f 10 n10, ne-eqb f 11 n11, ne-eqb f 12 n12, ne-eqb f 13 n13, ne-eqb f 14 n14, ne-eqb f 15 n15))
+
+  pub ie-rest : (f : ℕ) → v .line .kind ≡ IE → (f ≡ 2 → ⊥) → (f ≡ 3 → ⊥) → (f ≡ 4 → ⊥) → laterAt s v f ≡ []
+  unfolding laterAt rulesOf rulesIn rules rule3 rule4 rule5 rule6 rule7 rule8 rule9 rule10 rule11 rule12 rule13 rule14 rule15 rule16 rule17 rule18 asks isNumbered isCodeField bookKind isKnown
+  ie-rest f k n2 n3 n4 = rw k (simp (ne-eqb f 2 n2, ne-eqb f 3 n3, ne-eqb f 4 n4))
+
+  pub in-rest : (f : ℕ) → v .line .kind ≡ IN → (f ≡ 2 → ⊥) → (f ≡ 3 → ⊥) → (f ≡ 5 → ⊥) → (f ≡ 6 → ⊥) → laterAt s v f ≡ []
+  unfolding laterAt rulesOf rulesIn rules rule3 rule4 rule5 rule6 rule7 rule8 rule9 rule10 rule11 rule12 rule13 rule14 rule15 rule16 rule17 rule18 asks isNumbered isCodeField bookKind isKnown
+  in-rest f k n2 n3 n5 n6 = rw k (simp (ne-eqb f 2 n2, ne-eqb f 3 n3, ne-eqb f 5 n5, ne-eqb f 6 n6))
+
+  pub ia-rest : (f : ℕ) → v .line .kind ≡ IA → (f ≡ 2 → ⊥) → (f ≡ 3 → ⊥) → (f ≡ 4 → ⊥) → laterAt s v f ≡ []
+  unfolding laterAt rulesOf rulesIn rules rule3 rule4 rule5 rule6 rule7 rule8 rule9 rule10 rule11 rule12 rule13 rule14 rule15 rule16 rule17 rule18 asks isNumbered isCodeField bookKind isKnown
+  ia-rest f k n2 n3 n4 = rw k (simp (ne-eqb f 2 n2, ne-eqb f 3 n3, ne-eqb f 4 n4))
+
+  -- kinds without later rules
+  pub other-rest : (f : ℕ) → (v .line .kind ≡ IV → ⊥) → (v .line .kind ≡ IP → ⊥) → (v .line .kind ≡ II → ⊥) → (v .line .kind ≡ IE → ⊥) → (v .line .kind ≡ IN → ⊥) → (v .line .kind ≡ IA → ⊥) → laterAt s v f ≡ []
+  unfolding laterAt rulesOf rulesIn rules rule3 rule4 rule5 rule6 rule7 rule8 rule9 rule10 rule11 rule12 rule13 rule14 rule15 rule16 rule17 rule18 asks isNumbered isCodeField bookKind isKnown
+  other-rest f n1 n3 n4 n5 n6 n7 =
+      simp
+      (ne-eqb _ 1 n1, ne-eqb _ 3 n3, ne-eqb _ 4 n4, ne-eqb _ 5 n5, ne-eqb _ 6 n6, ne-eqb _ 7 n7, apart 3 (v .line .kind) (omega arith) n3 n4 n5 n6 n7, apart 4 (v .line .kind) (omega arith) n3 n4 n5 n6 n7)

@@ -1,0 +1,13 @@
+-- `rules::fields::judge_plain` meets its contract.
+-- Assumes nothing.
+use Rattle.rules.proofs.LineNeeds.{for-plain}
+use Rattle.rules.proofs.fields.judge_plain.Statement.{statement}
+use Rattle.rules.proofs.fields.judge_plain.Tie as tie
+
+pub judge-plain-spec : {M : Type 1} → statement M
+judge-plain-spec =
+    tie.close
+    (tie.spec
+    (λ c. search for-plain)
+    (λ c. search for-plain)
+    (λ c. search for-plain))

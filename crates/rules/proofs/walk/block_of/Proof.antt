@@ -1,0 +1,18 @@
+-- `rules::walk::block_of` meets its contract.
+-- Assumes nothing.
+use Rattle.rules.proofs.WalkNeeds.{for-block-of}
+use Rattle.rules.proofs.walk.block_of.Statement.{statement}
+use Rattle.rules.proofs.walk.block_of.Tie as tie
+
+pub block-of-spec : {M : Type 1} → statement M
+block-of-spec =
+    tie.close
+    (tie.spec
+    (λ c. search for-block-of)
+    (λ c. search for-block-of)
+    (λ c. search for-block-of)
+    (λ c. search for-block-of)
+    (λ c. search for-block-of)
+    (λ c. search for-block-of)
+    (λ c. search for-block-of)
+    (λ c. search for-block-of))

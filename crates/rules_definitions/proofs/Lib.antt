@@ -1,0 +1,4 @@
+pub mod FindingLaws
+pub mod AreaLaws
+pub mod BlockLaws
+pub mod EdgesLaws

@@ -1,0 +1,126 @@
+-- What each need of the functions on an II's and an IE's later rules asks.
+-- Assumes nothing.
+use mathlib.Core.Path.{_≡_}
+use mathlib.Core.Bool.{Bool, true, false, cond, _&&_, and-false}
+use mathlib.Core.List.{[], _∷_}
+use Prim.Native.Nat.{ℕ}
+use borrow.Author.Needs.{needs}
+use borrow.Author.Tests.{ne-eqb}
+use lib.Dec.{eqb}
+use Rattle.house.specs.Text.{Text, same}
+use Rattle.lines_fields.specs.Lines.{fieldOf}
+use Rattle.lines.specs.Records.{recOf}
+use Rattle.rules_definitions.specs.Forms.{text}
+use Rattle.rules_definitions.specs.Rules.{siteWrong, methodWrong}
+use Rattle.rules_forms.proofs.FieldLaws.{text-is}
+use Rattle.rules_fields.specs.Fields.{codeLater, ledgerRule}
+use Rattle.rules_fields.proofs.LookLaws.{low-broken, code-empty, code-given}
+
+-- a rule of tests that are asked one after the other
+module _ (u v : Bool) (n : ℕ) (x : Bool) (e : x ≡ u) where
+  pub asked-no : x ≡ false → 0 ≡ cond (u && v) n 0
+  asked-no h = rw (← e, h)
+
+  module _ (h : x ≡ true) (y : Bool) (f : y ≡ v) where
+    pub asked-not : y ≡ false → 0 ≡ cond (u && v) n 0
+    asked-not k = rw (← e, h, ← f, k)
+
+    pub asked-yes : y ≡ true → n ≡ cond (u && v) n 0
+    asked-yes k = rw (← e, h, ← f, k)
+
+-- the second being known already
+module _ (u v : Bool) (n : ℕ) (x : Bool) (e : x ≡ u) (h : x ≡ true) where
+  pub asked-none : v ≡ false → 0 ≡ cond (u && v) n 0
+  asked-none k = rw (← e, h, k)
+
+  pub asked-more : v ≡ true → n ≡ cond (u && v) n 0
+  asked-more k = rw (← e, h, k)
+
+-- site_rule, method_rule
+module _ (known : Bool) where
+  pub site-known : (x : Bool) → x ≡ known → x ≡ true → 0 ≡ codeLater false known false
+  unfolding codeLater
+  site-known x e h = rw (← e, h)
+
+  pub site-unknown : (x : Bool) → x ≡ known → x ≡ false → 4 ≡ codeLater false known false
+  unfolding codeLater
+  site-unknown x e h = rw (← e, h)
+
+pub ruleset for-site = (needs, low-broken, code-empty, code-given, site-known, site-unknown)
+
+-- site_against, method_against
+module _ (line s m : Text) (x : Bool) where
+  pub site-two : m ≡ fieldOf line 10 → x ≡ siteWrong s m → x ≡ siteWrong s (text (recOf line) 10)
+  site-two q e = rw (text-is line 10, ← q) e
+
+  pub method-two : s ≡ fieldOf line 9 → x ≡ methodWrong s m → x ≡ methodWrong (text (recOf line) 9) m
+  method-two p e = rw (text-is line 9, ← p) e
+
+-- again_rule
+pub sound-no : (a : Bool) (n r m : ℕ) → r ≡ n → (r ≡ 0 → ⊥) → 0 ≡ cond (eqb n 0 && a) m 0
+sound-no a n r m e h = rw (← e, ne-eqb r 0 h)
+
+module _ (a : Bool) (n r m : ℕ) (e : r ≡ n) (h : r ≡ 0) (x : Bool) (f : x ≡ a) where
+  pub sound-not : x ≡ false → 0 ≡ cond (eqb n 0 && a) m 0
+  sound-not k = rw (← e, h, ← f, k)
+
+  pub sound-yes : x ≡ true → m ≡ cond (eqb n 0 && a) m 0
+  sound-yes k = rw (← e, h, ← f, k)
+
+pub ruleset for-again = (needs, sound-no, sound-not, sound-yes)
+
+pub ruleset for-asked = (needs, asked-no, asked-not, asked-yes, asked-more, asked-none, site-two, method-two)
+
+-- set_rule
+module _ (r : ℕ) (a b c d : Bool) where
+  pub set-a : a ≡ false → 0 ≡ cond (a && (b && (c && d))) r 0
+  set-a h = rw h
+
+  module _ (h : a ≡ true) (x : Bool) (e : x ≡ d) where
+    pub set-d : x ≡ false → 0 ≡ cond (a && (b && (c && d))) r 0
+    set-d k = rw (h, ← e, k, and-false c, and-false b)
+
+    module _ (k : x ≡ true) (y : Bool) (f : y ≡ b) where
+      pub set-b : y ≡ false → 0 ≡ cond (a && (b && (c && d))) r 0
+      set-b m = rw (h, ← f, m)
+
+      module _ (m : y ≡ true) (z : Bool) (g : z ≡ c) where
+        pub set-c : z ≡ false → 0 ≡ cond (a && (b && (c && d))) r 0
+        set-c n = rw (h, ← f, m, ← g, n)
+
+        pub set-all : z ≡ true → r ≡ cond (a && (b && (c && d))) r 0
+        set-all n = rw (h, ← f, m, ← g, n, ← e, k)
+
+pub ruleset for-set = (needs, set-a, set-d, set-b, set-c, set-all)
+
+-- ledger_rule
+module _ (inb live : Bool) (t : Text) where
+  pub ledger-out : inb ≡ false → 0 ≡ ledgerRule inb t live
+  unfolding ledgerRule
+  ledger-out h = rw h
+
+  module _ (h : inb ≡ true) where
+    module _ (l : live ≡ true) (x : Bool) (e : x ≡ same t (65 ∷ [])) where
+      pub ledger-add : x ≡ true → 16 ≡ ledgerRule inb t live
+      unfolding ledgerRule
+      ledger-add k = rw (h, l, ← e, k)
+
+      pub ledger-live : x ≡ false → 0 ≡ ledgerRule inb t live
+      unfolding ledgerRule
+      ledger-live k = rw (h, l, ← e, k)
+
+    module _ (l : live ≡ false) (x : Bool) (e : x ≡ same t (67 ∷ [])) where
+      pub ledger-change : x ≡ true → 17 ≡ ledgerRule inb t live
+      unfolding ledgerRule
+      ledger-change k = rw (h, l, ← e, k)
+
+      module _ (k : x ≡ false) (y : Bool) (f : y ≡ same t (68 ∷ [])) where
+        pub ledger-delete : y ≡ true → 18 ≡ ledgerRule inb t live
+        unfolding ledgerRule
+        ledger-delete m = rw (h, l, ← e, k, ← f, m)
+
+        pub ledger-other : y ≡ false → 0 ≡ ledgerRule inb t live
+        unfolding ledgerRule
+        ledger-other m = rw (h, l, ← e, k, ← f, m)
+
+pub ruleset for-ledger = (needs, ledger-out, ledger-add, ledger-live, ledger-change, ledger-delete, ledger-other)

@@ -1,0 +1,80 @@
+-- A line read as a record, field by field.
+-- Assumes nothing.
+use mathlib.Core.Path.{_≡_, refl, ap, _∙_}
+use mathlib.Core.Bool.{Bool, true, false, not, cond, _&&_, and-false}
+use mathlib.Core.List.{[], _∷_}
+use Prim.Native.Nat.{ℕ, suc, _+_}
+use native.Mathlib.Omega.{arith}
+use lib.Dec.{eqb}
+use lib.ListN.{length, getD, drop}
+use Rattle.house.specs.Text.{Text, within, isEmpty}
+use Rattle.lines_fields.specs.Lines.{fieldsOf, fieldOf, fieldsLen}
+use Rattle.lines.specs.Records.{Rec, II, recordOf, recOf, isKind}
+use Rattle.lines_fields.proofs.FieldLaws.{fields-after}
+use Rattle.rules_definitions.specs.Forms.{fieldIn, text, isJudged, isRelaxed, relaxedBy, isOptional, isMissing, isMisformed, isSound, isGiven}
+use Rattle.rules_definitions.specs.Rules.{lacks}
+use Rattle.rules_forms.specs.FieldLeaves.{lowest, optionalIn, lowestIn, soundAs}
+use lib.Seq.{getD-drop}
+
+pub text-is : (t : Text) (f : ℕ) → text (recOf t) f ≡ fieldOf t f
+unfolding recOf fieldIn fieldOf
+text-is t f = refl
+
+pub field-is : (t : Text) (f : ℕ) → fieldIn (fieldsOf t) f ≡ fieldOf t f
+unfolding fieldIn fieldOf
+field-is t f = refl
+
+pub kind-is : (t : Text) (k : ℕ) → isKind k (recOf t) ≡ eqb (recordOf t) k
+unfolding recOf
+kind-is t k = refl
+
+pub relaxed-is : (t : Text) → isRelaxed (recOf t) ≡ relaxedBy (fieldsOf t)
+unfolding recOf
+relaxed-is t = refl
+
+-- a text of no bytes is empty, and no other is
+pub empty-true : (t : Text) → length t ≡ 0 → isEmpty t ≡ true
+empty-true [] h = refl
+empty-true (b ∷ t) h = absurd (omega arith)
+
+pub empty-false : (t : Text) → (length t ≡ 0 → ⊥) → isEmpty t ≡ false
+empty-false [] h = absurd (h refl)
+empty-false (b ∷ t) h = refl
+
+-- Rules 1 and 2 by a field's text
+pub lowest-in : (k : ℕ) (l : Rec) (f later : ℕ) → lowestIn k (isRelaxed l) f (text l f) later ≡ lowest k l f later
+unfolding lowestIn optionalIn lowest isMissing isMisformed isOptional
+lowest-in k l f later = refl
+
+module _ (k : ℕ) (line t : Text) (f later : ℕ) (relaxed : Bool) where
+  pub lowest-of : t ≡ fieldOf line f → relaxed ≡ isRelaxed (recOf line) → lowestIn k relaxed f t later ≡ lowest k (recOf line) f later
+  lowest-of d e = rw (e, d, ← text-is line f) (lowest-in k (recOf line) f later)
+
+-- whether the event is relaxed decides only of an empty text in II 9 to 15
+module _ (k f : ℕ) (t : Text) (later : ℕ) (a b : Bool) where
+  pub lowest-either : eqb k II && within 9 15 f ≡ false → lowestIn k a f t later ≡ lowestIn k b f t later
+  unfolding lowestIn optionalIn
+  lowest-either h = rw h
+
+  pub lowest-filled : (length t ≡ 0 → ⊥) → lowestIn k a f t later ≡ lowestIn k b f t later
+  unfolding lowestIn
+  lowest-filled n = rw (empty-false t n, and-false (isJudged k f && not (optionalIn k a f)), and-false (isJudged k f && not (optionalIn k b f)))
+
+pub sound-as : (k : ℕ) (l : Rec) (f : ℕ) → soundAs k l f (text l f) ≡ isSound k l f
+unfolding soundAs isSound lowest
+sound-as k l f = rw (lowest-in k l f 0) (go (isMissing k l f) (isMisformed k l f))
+  where
+    go : (m n : Bool) → eqb (cond m 1 (cond n 2 0)) 0 ≡ not m && not n
+    go true n = refl
+    go false true = refl
+    go false false = refl
+
+-- Rule 10 by a field's text
+pub lacks-of : (line t : Text) (f other : ℕ) → t ≡ fieldOf line f → isEmpty t && isGiven 4 (recOf line) other ≡ lacks (recOf line) f other
+unfolding lacks
+lacks-of line t f other d = rw (text-is line f, ← d)
+
+-- the fields behind the first f
+pub field-behind : (t u : Text) (f j : ℕ) → u ≡ drop (fieldsLen f t) t → fieldOf u (suc j) ≡ fieldOf t (suc (f + j))
+unfolding fieldOf
+field-behind t u f j e = ap (λ (s : Text). getD (fieldsOf s) j []) e ∙ rw (fields-after f t) (getD-drop f (fieldsOf t) j [])

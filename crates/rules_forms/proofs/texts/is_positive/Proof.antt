@@ -1,0 +1,14 @@
+-- `rules_forms::texts::is_positive` meets its contract.
+-- Assumes nothing.
+use Rattle.rules_forms.proofs.TextNeeds.{for-value}
+use Rattle.rules_forms.proofs.texts.is_positive.Statement.{statement}
+use Rattle.rules_forms.proofs.texts.is_positive.Tie as tie
+
+pub is-positive-spec : {M : Type 1} → statement M
+is-positive-spec =
+    tie.close
+    (tie.spec
+    (λ c. search for-value)
+    (λ c. search for-value)
+    (λ c. search for-value)
+    (λ c. search for-value))

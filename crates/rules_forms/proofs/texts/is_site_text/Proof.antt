@@ -1,0 +1,12 @@
+-- `rules_forms::texts::is_site_text` meets its contract.
+-- Assumes nothing.
+use Rattle.rules_forms.proofs.TextNeeds.{for-form}
+use Rattle.rules_forms.proofs.texts.is_site_text.Statement.{statement}
+use Rattle.rules_forms.proofs.texts.is_site_text.Tie as tie
+
+pub is-site-text-spec : {M : Type 1} → statement M
+is-site-text-spec =
+    tie.close
+    (tie.spec
+    (λ c. search for-form)
+    (λ c. search for-form))

@@ -1,0 +1,282 @@
+// The fields of a line: the form that each takes, which are mandatory, and when one is sound.
+use crate::texts::*;
+use lines::IA;
+use lines::IE;
+use lines::IF;
+use lines::IH;
+use lines::II;
+use lines::IN;
+use lines::IP;
+use lines::IV;
+ghost use mathlib.Core.Bool.{_&&_};
+ghost use mathlib.Core.Path.{_≡_};
+ghost use Rattle.house.specs.Text.{within, isEmpty};
+ghost use lib.ListN.{drop};
+ghost use Rattle.lines_fields.specs.Lines.{fieldsOf, fieldOf, fieldsLen};
+ghost use Rattle.lines.specs.Records.{recOf};
+ghost use Rattle.rules_definitions.specs.Forms.{formOf, isJudged, relaxedBy, isRelaxed, isSound, isGiven};
+ghost use Rattle.rules_forms.specs.FieldLeaves.{refusedBy, optionalIn, lowestIn, soundAs};
+
+// The form of field f of an IH.
+fn form_ih(f: usize, t: &[u8]) -> bool
+    ensures { λ r. ⌜ r ≡ formOf 2 f (now (t .entry)) ⌝ }
+{
+    match f {
+        2 => is_prefix(t),
+        3 => is_batch(t),
+        _ => true,
+    }
+}
+
+// The form of field f of an IP.
+fn form_ip(f: usize, t: &[u8]) -> bool
+    ensures { λ r. ⌜ r ≡ formOf 3 f (now (t .entry)) ⌝ }
+{
+    match f {
+        2 => is_number(t),
+        3 => is_uli(t),
+        25 => is_date(t),
+        _ => true,
+    }
+}
+
+// The form of field f of an II.
+fn form_ii(f: usize, t: &[u8]) -> bool
+    ensures { λ r. ⌜ r ≡ formOf 4 f (now (t .entry)) ⌝ }
+{
+    match f {
+        2 => is_number(t),
+        3 => is_uli(t),
+        4 => is_type(t),
+        5 => is_historical(t),
+        6 => is_date(t),
+        8 => is_code(t),
+        9 => is_site_text(t),
+        10 => is_method_text(t),
+        11 => is_reason(t),
+        12 => is_dosage(t),
+        13 => is_dosage_type(t),
+        14 => is_manufacturer(t),
+        15 => is_lot(t),
+        _ => true,
+    }
+}
+
+// The form of field f of an IE.
+fn form_ie(f: usize, t: &[u8]) -> bool
+    ensures { λ r. ⌜ r ≡ formOf 5 f (now (t .entry)) ⌝ }
+{
+    match f {
+        2 => is_number(t),
+        3 => is_uli(t),
+        4 => is_code(t),
+        5 => is_count(t),
+        _ => true,
+    }
+}
+
+// The form of field f of an IN.
+fn form_in(f: usize, t: &[u8]) -> bool
+    ensures { λ r. ⌜ r ≡ formOf 6 f (now (t .entry)) ⌝ }
+{
+    match f {
+        2 => is_number(t),
+        3 => is_uli(t),
+        4 => is_type(t),
+        5 => is_date(t),
+        6 => is_reason_not(t),
+        7 => is_organization(t),
+        8 => is_grade(t),
+        _ => true,
+    }
+}
+
+// The form of field f of an IA.
+fn form_ia(f: usize, t: &[u8]) -> bool
+    ensures { λ r. ⌜ r ≡ formOf 7 f (now (t .entry)) ⌝ }
+{
+    match f {
+        2 => is_number(t),
+        3 => is_uli(t),
+        4 => is_code(t),
+        _ => true,
+    }
+}
+
+// The form of field f of an IF.
+fn form_if(f: usize, t: &[u8]) -> bool
+    ensures { λ r. ⌜ r ≡ formOf 8 f (now (t .entry)) ⌝ }
+{
+    match f {
+        2 => is_total(t),
+        _ => true,
+    }
+}
+
+// Whether a text is of the form of field f of a record of a kind. Fields not listed, and IV 2, take any text.
+fn form_of(kind: u8, f: usize, t: &[u8]) -> bool
+    ensures { λ r. ⌜ r ≡ formOf kind f (now (t .entry)) ⌝ }
+{
+    match kind {
+        IH => form_ih(f, t),
+        IP => form_ip(f, t),
+        II => form_ii(f, t),
+        IE => form_ie(f, t),
+        IN => form_in(f, t),
+        IA => form_ia(f, t),
+        IF => form_if(f, t),
+        _ => true,
+    }
+}
+
+// Whether a number lies from lo to hi.
+fn is_within(lo: usize, hi: usize, f: usize) -> bool
+    ensures { λ r. ⌜ r ≡ within lo hi f ⌝ }
+{
+    if f < lo {
+        return false;
+    }
+    if hi < f { false } else { true }
+}
+
+// Whether field f of a record of a kind is judged at all.
+fn is_judged(kind: u8, f: usize) -> bool
+    ensures { λ r. ⌜ r ≡ isJudged kind f ⌝ }
+{
+    match kind {
+        IV => is_within(2, 2, f),
+        IH => is_within(2, 3, f),
+        IP => { if f == 25 { true } else { is_within(2, 3, f) } }
+        II => { if f == 7 { false } else { is_within(2, 15, f) } }
+        IE => is_within(2, 5, f),
+        IN => is_within(2, 8, f),
+        IA => is_within(2, 4, f),
+        IF => is_within(2, 3, f),
+        _ => false,
+    }
+}
+
+// A line's text behind its first f fields.
+pub fn behind(text: &[u8], f: usize) -> &[u8]
+    ensures { λ r. ⌜ now r ≡ drop (fieldsLen f (now (text .entry))) (now (text .entry)) ⌝ }
+{
+    let start = lines_fields::field_start(text, f);
+    &text[start..]
+}
+
+// Whether II 18 and 19, the first two fields of the rest of a line, relax an event.
+fn is_refused(rest: &[u8]) -> bool
+    ensures { λ r. ⌜ r ≡ refusedBy (fieldOf (now (rest .entry)) 1) (fieldOf (now (rest .entry)) 2) ⌝ }
+{
+    let t = lines_fields::field_of(rest, 1);
+    if t.len() == 0 {
+        if lines_fields::field_of(rest, 2).len() == 0 {
+            return false;
+        } else {
+            return true;
+        }
+    }
+    if house::same(t, b"AB") { false } else { true }
+}
+
+// Whether an II is a relaxed event, by fields 5, 18, 19 and 20. The line is read once: to 18 from the start of 5, and on from there.
+pub fn relaxed(line: &[u8]) -> bool
+    ensures { λ r. ⌜ r ≡ relaxedBy (fieldsOf (now (line .entry))) ⌝ }
+{
+    let fifth = behind(line, 4);
+    if house::same(lines_fields::field_of(fifth, 1), b"H") {
+        return true;
+    }
+    let rest = behind(fifth, 13);
+    if lines_fields::field_of(rest, 3).len() == 0 {
+        is_refused(rest)
+    } else {
+        true
+    }
+}
+
+// Whether field f of a record of a kind may be empty, an II being a relaxed event or not.
+fn is_optional(kind: u8, relaxed: bool, f: usize) -> bool
+    ensures { λ r. ⌜ r ≡ optionalIn kind relaxed f ⌝ }
+{
+    if kind == IN {
+        return f == 8;
+    }
+    if kind != II {
+        return false;
+    }
+    match f {
+        5 => true,
+        9..=15 => relaxed,
+        _ => false,
+    }
+}
+
+// Which of rules 1 and 2 is broken at field f of a record of a kind, by the field's text; 0 for neither.
+pub fn basic_rule(kind: u8, relaxed: bool, f: usize, t: &[u8]) -> u8
+    ensures { λ r. ⌜ r ≡ lowestIn kind relaxed f (now (t .entry)) 0 ⌝ }
+{
+    if t.len() != 0 {
+        if form_of(kind, f, t) {
+            return 0;
+        } else {
+            return 2;
+        }
+    }
+    if is_judged(kind, f) {
+        if is_optional(kind, relaxed, f) { 0 } else { 1 }
+    } else {
+        0
+    }
+}
+
+// Whether a line is a relaxed event, where the answer decides if field f with this text is sound; elsewhere false, unread.
+fn relaxed_at(kind: u8, line: &[u8], f: usize, t: &[u8]) -> bool
+    ensures { λ r. ⌜ lowestIn kind r f (now (t .entry)) 0 ≡ lowestIn kind (isRelaxed (recOf (now (line .entry)))) f (now (t .entry)) 0 ⌝ }
+{
+    if t.len() == 0 {
+        if kind == II {
+            if is_within(9, 15, f) {
+                return relaxed(line);
+            }
+        }
+    }
+    false
+}
+
+// Whether field f of a line is sound, this being its text.
+pub fn sound_text(kind: u8, line: &[u8], f: usize, t: &[u8]) -> bool
+    ensures { λ r. ⌜ r ≡ soundAs kind (recOf (now (line .entry))) f (now (t .entry)) ⌝ }
+{
+    let loose = relaxed_at(kind, line, f, t);
+    basic_rule(kind, loose, f, t) == 0
+}
+
+// Whether field f of a line is sound: rules 1 and 2 find nothing in it.
+pub fn is_sound(kind: u8, line: &[u8], f: usize) -> bool
+    ensures { λ r. ⌜ r ≡ isSound kind (recOf (now (line .entry))) f ⌝ }
+{
+    sound_text(kind, line, f, lines_fields::field_of(line, f))
+}
+
+// Whether field f of a line is sound and not empty.
+pub fn is_given(kind: u8, line: &[u8], f: usize) -> bool
+    ensures { λ r. ⌜ r ≡ isGiven kind (recOf (now (line .entry))) f ⌝ }
+{
+    let t = lines_fields::field_of(line, f);
+    if t.len() == 0 {
+        return false;
+    }
+    form_of(kind, f, t)
+}
+
+// Rule 10: whether this text of a field of an II is empty and the other field given.
+pub fn lacks(line: &[u8], t: &[u8], other: usize) -> bool
+    ensures { λ r. ⌜ r ≡ (isEmpty (now (t .entry)) && isGiven 4 (recOf (now (line .entry))) other) ⌝ }
+{
+    if t.len() == 0 {
+        is_given(II, line, other)
+    } else {
+        false
+    }
+}

@@ -1,0 +1,19 @@
+// The forms of texts and fields: what one text decides alone, which form each field takes, which are mandatory, when one is sound, and when an
+// event is relaxed.
+mod classes;
+mod fields;
+mod texts;
+
+pub use fields::basic_rule;
+pub use fields::behind;
+pub use fields::is_given;
+pub use fields::is_sound;
+pub use fields::lacks;
+pub use fields::relaxed;
+pub use fields::sound_text;
+pub use texts::is_code;
+pub use texts::is_count;
+pub use texts::is_date;
+pub use texts::is_type;
+pub use texts::is_uli;
+pub use texts::value;

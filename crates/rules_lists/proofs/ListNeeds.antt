@@ -1,0 +1,168 @@
+-- What each need of the functions over the lines of a part asks.
+-- Assumes nothing.
+use mathlib.Core.Path.{_≡_, refl, sym, _∙_}
+use mathlib.Core.Bool.{Bool, true, false, _&&_, and-false}
+use mathlib.Core.List.{List}
+use Prim.Native.Nat.{ℕ, _-_, _≤_, _<_}
+use native.Mathlib.Omega.{arith}
+use borrow.Author.Needs.{needs}
+use borrow.Author.Tests.{eq-eqb, ne-eqb}
+use lib.Dec.{eqb}
+use lib.ListN.{length, take, drop}
+use Rattle.house.specs.Text.{Text, any, all, same, run, number, isDigit}
+use Rattle.house.proofs.Small.{both}
+use Rattle.lines_fields.specs.declared.LineAt.{LineAt}
+use Rattle.lines_fields.specs.Lines.{fieldOf, fieldsLen, LineIs}
+use Rattle.lines.specs.Records.{Rec, recordOf, recOf, recs}
+use Rattle.lines_fields.proofs.LineLaws.{left-falls}
+use Rattle.lines.proofs.PartLaws.{recs-past, recs-on}
+use Rattle.rules_definitions.specs.Forms.{text, countForm, isCount, isSound}
+use Rattle.rules_definitions.specs.Rules.{sameAntigen, doseOf, sameCount, allIn, countsSound, setsDiffer}
+use Rattle.rules_forms.specs.TextLeaves.{valueOf}
+use Rattle.rules_forms.proofs.TextLaws.{value-run}
+use Rattle.rules_forms.specs.FieldLeaves.{soundAs}
+use Rattle.rules_lists.specs.Among.{antigenIs, lotIs, doseIn, countIs, countIn, soundCount}
+use Rattle.rules_lists.proofs.StepNeeds.{step-same}
+use Rattle.rules_forms.proofs.FieldLaws.{text-is, kind-is, sound-as}
+use Rattle.rules_forms.proofs.FieldLaws.{field-behind}
+
+-- Loops over lines that ask the same of each
+module _ (p : Rec → Bool) (s : Text) (at : ℕ) (x : Bool) where
+  module _ (inv : x ≡ any p (recs (drop at s))) where
+    pub any-past : length s ≤ at → false ≡ x
+    any-past h = rw (inv, recs-past s at h)
+
+    module _ (h : at < length s) (q : LineAt) (e : LineIs s at q) (y : Bool) (g : y ≡ p (recOf (take (q .end - at) (drop at s)))) where
+      pub any-here : y ≡ true → true ≡ x
+      any-here k = rw (inv, recs-on s at q e h, ← g, k)
+
+      pub any-next : y ≡ false → x ≡ any p (recs (drop (q .next) s))
+      any-next k = rw (inv, recs-on s at q e h, ← g, k)
+
+  module _ (inv : x ≡ all p (recs (drop at s))) where
+    pub all-past : length s ≤ at → true ≡ x
+    all-past h = rw (inv, recs-past s at h)
+
+    module _ (h : at < length s) (q : LineAt) (e : LineIs s at q) (y : Bool) (g : y ≡ p (recOf (take (q .end - at) (drop at s)))) where
+      pub all-here : y ≡ false → false ≡ x
+      all-here k = rw (inv, recs-on s at q e h, ← g, k)
+
+      pub all-next : y ≡ true → x ≡ all p (recs (drop (q .next) s))
+      all-next k = rw (inv, recs-on s at q e h, ← g, k)
+
+pub counts-start : (ls : List Rec) → countsSound ls ≡ all soundCount ls
+unfolding countsSound soundCount
+counts-start ls = refl
+
+pub ruleset for-any-line = (needs, any-past, any-here, any-next, left-falls)
+
+pub ruleset for-all-lines = (needs, counts-start, all-past, all-here, all-next, left-falls)
+
+-- has_antigen
+pub antigen-here : (l t u : Text) (x : Bool) → u ≡ fieldOf l 4 → x ≡ same t u → x ≡ antigenIs t (recOf l)
+unfolding antigenIs
+antigen-here l t u x d e = rw (text-is l 4, ← d) e
+
+pub ruleset for-antigen = (needs, antigen-here)
+
+-- has_lot
+module _ (l t : Text) (k : ℕ) (d : k ≡ recordOf l) where
+  pub lot-kind : (k ≡ 4 → ⊥) → false ≡ lotIs t (recOf l)
+  unfolding lotIs
+  lot-kind n = rw (kind-is, ← d, ne-eqb k 4 n)
+
+  module _ (z : k ≡ 4) (u : Text) (f : u ≡ fieldOf l 15) (x : Bool) (e : x ≡ same t u) where
+    pub lot-other : x ≡ false → false ≡ lotIs t (recOf l)
+    unfolding lotIs
+    lot-other h = rw (kind-is, ← d, eq-eqb k 4 z, text-is l 15, ← f, ← e, h) (sym (and-false (isSound 4 (recOf l) 15)))
+
+    pub lot-here : (y : Bool) → x ≡ true → y ≡ soundAs 4 (recOf l) 15 u → y ≡ lotIs t (recOf l)
+    unfolding lotIs
+    lot-here y h g =
+        rw (kind-is, ← d, eq-eqb k 4 z, ← sound-as 4 (recOf l) 15, text-is l 15, ← f, ← e, h, ← g) (go y)
+      where
+        go : (b : Bool) → b ≡ b && true
+        go true = refl
+        go false = refl
+
+pub ruleset for-lot = (needs, lot-kind, lot-other, lot-here)
+
+-- dose_of
+count-value : (t : Text) → isCount t ≡ true → valueOf t ≡ number t
+unfolding isCount countForm
+count-value t h = value-run t 1 2 (omega arith) (omega arith) (both (run 1 2 isDigit t) _ h .0)
+
+module _ (t : Text) (x : Bool) (e : x ≡ isCount t) where
+  pub dose-none : x ≡ false → 0 ≡ doseIn t
+  unfolding doseIn
+  dose-none h = rw (← e, h)
+
+  pub dose-is : (n : ℕ) → x ≡ true → n ≡ valueOf t → n ≡ doseIn t
+  unfolding doseIn
+  dose-is n h k = rw (← e, h) (k ∙ count-value t (sym e ∙ h))
+
+pub ruleset for-dose = (needs, dose-none, dose-is)
+
+counts-are : (l : Rec) (t : Text) (n : ℕ) (ls : List Rec) → t ≡ text l 4 → n ≡ doseOf l → any (countIs t n) ls ≡ countIn ls l
+unfolding countIn countIs sameCount sameAntigen
+counts-are l t n ls d e = rw (d, e)
+
+-- has_count, count_among, counts_alike: a line l goes on at its field 4
+module _ (l v u : Text) (c : v ≡ drop (fieldsLen 3 l) l) (d : u ≡ fieldOf v 1) where
+  antigen-is : text (recOf l) 4 ≡ u
+  antigen-is = text-is l 4 ∙ sym (d ∙ field-behind l v 3 0 c)
+
+  -- and at its field 5
+  module _ (w r : Text) (n : ℕ) (f : w ≡ drop (fieldsLen 1 v) v) (g : r ≡ fieldOf w 1) (k : n ≡ doseIn r) where
+    dose-there : doseOf (recOf l) ≡ n
+    unfolding doseOf doseIn
+    dose-there = rw (text-is l 5, ← field-behind l v 3 1 c, ← field-behind v w 1 0 f, ← g) (sym k)
+
+    pub count-here : (t : Text) (m : ℕ) (x : Bool) → x ≡ same t u → x ≡ true → eqb m n ≡ countIs t m (recOf l)
+    unfolding countIs
+    count-here t m x e h = rw (antigen-is, ← e, h, dose-there)
+
+    pub count-among : (ls : List Rec) (x : Bool) → x ≡ any (countIs u n) ls → x ≡ countIn ls (recOf l)
+    count-among ls x e = e ∙ counts-are (recOf l) u n ls (sym antigen-is) (sym dose-there)
+
+    pub count-alike : (p : Rec) (x : Bool) → x ≡ countIs u n p → x ≡ sameCount (recOf l) p
+    unfolding countIs sameCount sameAntigen
+    count-alike p x e = e ∙ rw (antigen-is, dose-there)
+
+  pub count-other : (t : Text) (m : ℕ) (x : Bool) → x ≡ same t u → x ≡ false → false ≡ countIs t m (recOf l)
+  unfolding countIs
+  count-other t m x e h = rw (antigen-is, ← e, h)
+
+pub ruleset for-has-count = (needs, count-other, count-here)
+
+pub ruleset for-count-among = (needs, count-among)
+
+pub ruleset for-counts-alike = (needs, count-alike)
+
+-- sets_differ, count_sound
+module _ (a b : List Rec) (x : Bool) (e : x ≡ all (countIn b) a) where
+  pub differ-first : x ≡ false → true ≡ setsDiffer a b
+  unfolding setsDiffer allIn countIn
+  differ-first h = rw (← e, h)
+
+  module _ (h : x ≡ true) (y : Bool) (f : y ≡ all (countIn a) b) where
+    pub differ-second : y ≡ false → true ≡ setsDiffer a b
+    unfolding setsDiffer allIn countIn
+    differ-second k = rw (← e, h, ← f, k)
+
+    pub differ-not : y ≡ true → false ≡ setsDiffer a b
+    unfolding setsDiffer allIn countIn
+    differ-not k = rw (← e, h, ← f, k)
+
+pub ruleset for-sets-differ = (needs, step-same, differ-first, differ-second, differ-not)
+
+module _ (l : Rec) (x : Bool) (e : x ≡ isSound 5 l 4) where
+  pub sound-not : x ≡ false → false ≡ soundCount l
+  unfolding soundCount
+  sound-not h = rw (← e, h)
+
+  pub sound-both : (y : Bool) → x ≡ true → y ≡ isSound 5 l 5 → y ≡ soundCount l
+  unfolding soundCount
+  sound-both y h f = rw (← e, h) f
+
+pub ruleset for-count-sound = (needs, sound-not, sound-both)

@@ -1,0 +1,204 @@
+// What is asked of the lines of a part of the file: antigens, counts and lots given before.
+use lines::IE;
+use lines::II;
+use lines_fields::field_from;
+use rules_forms::behind;
+use rules_forms::is_count;
+use rules_forms::is_sound;
+use rules_forms::sound_text;
+use rules_forms::value;
+ghost use mathlib.Core.Path.{_≡_};
+ghost use Rattle.house.specs.Text.{any, all};
+ghost use Rattle.lines.specs.Records.{recOf, recs};
+ghost use Rattle.rules_definitions.specs.Rules.{sameCount, countsSound, setsDiffer};
+ghost use Rattle.rules_lists.specs.Among.{antigenIs, lotIs, doseIn, countIs, countIn, inStep, soundCount};
+
+// Whether a line gives this antigen.
+fn has_antigen(line: &[u8], t: &[u8]) -> bool
+    ensures { λ r. ⌜ r ≡ antigenIs (now (t .entry)) (recOf (now (line .entry))) ⌝ }
+{
+    house::same(t, lines_fields::field_of(line, 4))
+}
+
+// Rule 12: whether one of these lines gives this antigen.
+pub fn any_antigen(t: &[u8], since: &[u8]) -> bool
+    ensures { λ r. ⌜ r ≡ any (antigenIs (now (t .entry))) (recs (now (since .entry))) ⌝ }
+{
+    let mut at = 0;
+    while at < since.len() {
+        let l = lines_fields::line_at(since, at);
+        let end = l.end;
+        if has_antigen(&since[at..end], t) {
+            return true;
+        }
+        at = l.next;
+    }
+    false
+}
+
+// Whether a line is an II with this lot.
+fn has_lot(line: &[u8], t: &[u8]) -> bool
+    ensures { λ r. ⌜ r ≡ lotIs (now (t .entry)) (recOf (now (line .entry))) ⌝ }
+{
+    if lines::kind_of(line) != II {
+        return false;
+    }
+    let lot = lines_fields::field_of(line, 15);
+    if house::same(t, lot) {
+        sound_text(II, line, 15, lot)
+    } else {
+        false
+    }
+}
+
+// Rule 14: whether an II among the block's lines has this lot.
+pub fn any_lot(t: &[u8], block: &[u8]) -> bool
+    ensures { λ r. ⌜ r ≡ any (lotIs (now (t .entry))) (recs (now (block .entry))) ⌝ }
+{
+    let mut at = 0;
+    while at < block.len() {
+        let l = lines_fields::line_at(block, at);
+        let end = l.end;
+        if has_lot(&block[at..end], t) {
+            return true;
+        }
+        at = l.next;
+    }
+    false
+}
+
+// A count as a number, 0 where it is not sound.
+fn dose_of(t: &[u8]) -> u32
+    ensures { λ r. ⌜ r ≡ doseIn (now (t .entry)) ⌝ }
+{
+    if is_count(t) { value(t) } else { 0 }
+}
+
+// Whether a line gives this antigen this often.
+fn has_count(line: &[u8], t: &[u8], dose: u32) -> bool
+    ensures { λ r. ⌜ r ≡ countIs (now (t .entry)) dose (recOf (now (line .entry))) ⌝ }
+{
+    let fourth = behind(line, 3);
+    if house::same(t, field_from(fourth, 0)) {
+        dose == dose_of(field_from(behind(fourth, 1), 0))
+    } else {
+        false
+    }
+}
+
+// Whether one of these lines gives this antigen this often.
+fn any_count(t: &[u8], dose: u32, others: &[u8]) -> bool
+    ensures { λ r. ⌜ r ≡ any (countIs (now (t .entry)) dose) (recs (now (others .entry))) ⌝ }
+{
+    let mut at = 0;
+    while at < others.len() {
+        let l = lines_fields::line_at(others, at);
+        let end = l.end;
+        if has_count(&others[at..end], t, dose) {
+            return true;
+        }
+        at = l.next;
+    }
+    false
+}
+
+// Whether one of these lines gives the line's antigen as often.
+fn count_among(line: &[u8], others: &[u8]) -> bool
+    ensures { λ r. ⌜ r ≡ countIn (recs (now (others .entry))) (recOf (now (line .entry))) ⌝ }
+{
+    let fourth = behind(line, 3);
+    let dose = dose_of(field_from(behind(fourth, 1), 0));
+    any_count(field_from(fourth, 0), dose, others)
+}
+
+// Whether each line's antigen is given as often among the others.
+fn all_counted(ps: &[u8], others: &[u8]) -> bool
+    ensures { λ r. ⌜ r ≡ all (countIn (recs (now (others .entry)))) (recs (now (ps .entry))) ⌝ }
+{
+    let mut at = 0;
+    while at < ps.len() {
+        let l = lines_fields::line_at(ps, at);
+        let end = l.end;
+        if count_among(&ps[at..end], others) {
+            at = l.next;
+        } else {
+            return false;
+        }
+    }
+    true
+}
+
+// Whether two lines give one antigen as often.
+fn counts_alike(line: &[u8], other: &[u8]) -> bool
+    ensures { λ r. ⌜ r ≡ sameCount (recOf (now (line .entry))) (recOf (now (other .entry))) ⌝ }
+{
+    let fourth = behind(line, 3);
+    let dose = dose_of(field_from(behind(fourth, 1), 0));
+    has_count(other, field_from(fourth, 0), dose)
+}
+
+// Whether these lines and those, one by one, give the same antigens as often.
+fn in_step(own: &[u8], first: &[u8]) -> bool
+    ensures { λ r. ⌜ r ≡ inStep (recs (now (own .entry))) (recs (now (first .entry))) ⌝ }
+{
+    let mut at = 0;
+    let mut by = 0;
+    while at < own.len() {
+        if first.len() <= by {
+            return false;
+        }
+        let l = lines_fields::line_at(own, at);
+        let p = lines_fields::line_at(first, by);
+        let end = l.end;
+        let stop = p.end;
+        if counts_alike(&own[at..end], &first[by..stop]) {
+            at = l.next;
+            by = p.next;
+        } else {
+            return false;
+        }
+    }
+    first.len() <= by
+}
+
+// Rule 13: whether the antigens with counts of these lines are not one set. Lines in step are one set, and one walk shows it.
+pub fn sets_differ(own: &[u8], first: &[u8]) -> bool
+    ensures { λ r. ⌜ r ≡ setsDiffer (recs (now (own .entry))) (recs (now (first .entry))) ⌝ }
+{
+    if in_step(own, first) {
+        return false;
+    }
+    if all_counted(own, first) {
+        if all_counted(first, own) { false } else { true }
+    } else {
+        true
+    }
+}
+
+// Whether an IE's antigen and count are sound.
+fn count_sound(line: &[u8]) -> bool
+    ensures { λ r. ⌜ r ≡ soundCount (recOf (now (line .entry))) ⌝ }
+{
+    if is_sound(IE, line, 4) {
+        is_sound(IE, line, 5)
+    } else {
+        false
+    }
+}
+
+// Rule 13: whether the antigens and counts of all these lines are sound.
+pub fn counts_sound(ps: &[u8]) -> bool
+    ensures { λ r. ⌜ r ≡ countsSound (recs (now (ps .entry))) ⌝ }
+{
+    let mut at = 0;
+    while at < ps.len() {
+        let l = lines_fields::line_at(ps, at);
+        let end = l.end;
+        if count_sound(&ps[at..end]) {
+            at = l.next;
+        } else {
+            return false;
+        }
+    }
+    true
+}

@@ -1,0 +1,170 @@
+-- What each need of the verdicts asks.
+-- Assumes nothing.
+use mathlib.Core.Path.{_≡_, refl, sym, _∙_}
+use mathlib.Core.Bool.{Bool, true, false, not, cond, _&&_}
+use mathlib.Core.List.{List, [], _∷_}
+use Prim.Native.Nat.{ℕ, _≤_, _<_}
+use native.Mathlib.Omega.{arith}
+use borrow.Author.Needs.{needs}
+use borrow.Author.Tests.{eq-eqb, ne-eqb, lt-ltb, le-ltb}
+use Rattle.dates.specs.declared.Date.{Date}
+use Rattle.dates.specs.declared.Dated.{Dated}
+use Rattle.dates.specs.declared.Dated.the-variants.{Day, NoDate}
+use Rattle.house.specs.Text.{Text, any, isEmpty, same, number}
+use Rattle.dates.specs.Dates.{isDate, datedOf}
+use Rattle.house.proofs.Small.{clash}
+use Rattle.dates.proofs.DateLaws.{dated-true, dated-false}
+use Rattle.lines_fields.specs.Lines.{fieldOf}
+use Rattle.lines.specs.Records.{Rec, IP, recOf}
+use Rattle.rules_definitions.specs.Forms.{formOf, isUli, isJudged, isSound}
+use Rattle.rules_forms.specs.TextLeaves.{valueOf}
+use Rattle.rules_forms.specs.FieldLeaves.{optionalIn, lowestIn}
+use Rattle.rules_lists.specs.Among.{lotIs}
+use Rattle.rules_plain.specs.PlainFields.{numberLater, uliLater, dayLater, bornOf, dateLater, versionLater, lotLater}
+use Rattle.rules_forms.proofs.FieldLaws.{text-is}
+use Rattle.rules_forms.proofs.SoundLaws.{ip-3, ip-25}
+
+-- the lowest rule: 1 or 2, or a later one where neither is broken
+module _ (k : ℕ) (x : Bool) (f : ℕ) (t : Text) (later r : ℕ) (e : r ≡ lowestIn k x f t 0) where
+  pub rule-broken : (r ≡ 0 → ⊥) → r ≡ lowestIn k x f t later
+  unfolding lowestIn
+  rule-broken n = go (isJudged k f && not (optionalIn k x f) && isEmpty t) (not (formOf k f t) && not (isEmpty t)) e
+    where
+      go : (a b : Bool) → r ≡ cond a 1 (cond b 2 0) → r ≡ cond a 1 (cond b 2 later)
+      go true b h = h
+      go false true h = h
+      go false false h = absurd (n h)
+
+  pub rule-later : (q : ℕ) → r ≡ 0 → q ≡ later → q ≡ lowestIn k x f t later
+  unfolding lowestIn
+  rule-later q z h = go (isJudged k f && not (optionalIn k x f) && isEmpty t) (not (formOf k f t) && not (isEmpty t)) (sym e ∙ z)
+    where
+      go : (a b : Bool) → _≡_ {A = ℕ} (cond a 1 (cond b 2 0)) 0 → q ≡ cond a 1 (cond b 2 later)
+      go true b g = absurd (omega arith)
+      go false true g = absurd (omega arith)
+      go false false g = h
+
+pub ruleset for-rule = (needs, rule-broken, rule-later)
+
+-- number_later, number_rule
+module _ (n place : ℕ) where
+  pub number-right : n ≡ place → 0 ≡ numberLater n place
+  unfolding numberLater
+  number-right e = rw (eq-eqb n place e)
+
+  pub number-wrong : (n ≡ place → ⊥) → 7 ≡ numberLater n place
+  unfolding numberLater
+  number-wrong e = rw (ne-eqb n place e)
+
+pub number-by : (t : Text) (n place q : ℕ) → n ≡ valueOf t → q ≡ numberLater n place → q ≡ numberLater (valueOf t) place
+number-by t n place q e h = rw (← e) h
+
+pub ruleset for-number-later = (needs, number-right, number-wrong)
+
+pub ruleset for-number-rule = (needs, rule-broken, rule-later, number-by)
+
+-- uli_later
+module _ (t p u : Text) (f : u ≡ fieldOf p 3) (y : Bool) (g : y ≡ same t u) where
+  pub uli-same : y ≡ true → 0 ≡ uliLater t (recOf p)
+  unfolding uliLater
+  uli-same k = rw (text-is p 3, ← f, ← g, k) (go (isSound IP (recOf p) 3))
+    where
+      go : (z : Bool) → _≡_ {A = ℕ} 0 (cond (z && false) 6 0)
+      go true = refl
+      go false = refl
+
+  module _ (h : y ≡ false) (x : Bool) (e : x ≡ isUli u) where
+    pub uli-unsound : x ≡ false → 0 ≡ uliLater t (recOf p)
+    unfolding uliLater
+    uli-unsound k = rw (ip-3 (recOf p), text-is p 3, ← f, ← e, k)
+
+    pub uli-other : x ≡ true → 6 ≡ uliLater t (recOf p)
+    unfolding uliLater
+    uli-other k = rw (ip-3 (recOf p), text-is p 3, ← f, ← e, k, ← g, h)
+
+pub ruleset for-uli-later = (needs, uli-unsound, uli-same, uli-other)
+
+-- day_later, born, date_later
+module _ (t : Text) (d : Dated) (e : d ≡ datedOf t) where
+  module _ (x : Date) (h : d ≡ Day x) where
+    day-is : number t ≡ x .number
+    unfolding datedOf
+    day-is = go (isDate t) (sym e ∙ h)
+      where
+        go : (b : Bool) → cond b (Day (record { number = number t })) NoDate ≡ Day x → number t ≡ x .number
+        go true k = cc
+        go false k = clash (cc)
+
+    is-dated : isDate t ≡ true
+    is-dated = dated-true t x (sym e ∙ h)
+
+    module _ (today : ℕ) where
+      pub day-after : today < x .number → 8 ≡ dayLater t today
+      unfolding dayLater
+      day-after k = rw (is-dated, day-is, lt-ltb today (x .number) k)
+
+      pub day-right : x .number ≤ today → 0 ≡ dayLater t today
+      unfolding dayLater
+      day-right k = rw (is-dated, day-is, le-ltb today (x .number) k)
+
+      module _ (born : ℕ) where
+        pub date-after : today < x .number → 8 ≡ dateLater t today born
+        unfolding dateLater
+        date-after k = rw (is-dated, day-is, lt-ltb today (x .number) k)
+
+        module _ (k : x .number ≤ today) where
+          pub date-before : x .number < born → 8 ≡ dateLater t today born
+          unfolding dateLater
+          date-before m = rw (is-dated, day-is, le-ltb today (x .number) k, lt-ltb (x .number) born m)
+
+          pub date-right : born ≤ x .number → 0 ≡ dateLater t today born
+          unfolding dateLater
+          date-right m = rw (is-dated, day-is, le-ltb today (x .number) k, le-ltb (x .number) born m)
+
+  module _ (h : d ≡ NoDate) (today : ℕ) where
+    pub day-none : 0 ≡ dayLater t today
+    unfolding dayLater
+    day-none = rw (dated-false t (sym e ∙ h))
+
+    pub date-none : (born : ℕ) → 0 ≡ dateLater t today born
+    unfolding dateLater
+    date-none born = rw (dated-false t (sym e ∙ h))
+
+module _ (p t : Text) (f : t ≡ fieldOf p 25) (d : Dated) (e : d ≡ datedOf t) where
+  pub born-day : (x : Date) → d ≡ Day x → x .number ≡ bornOf (recOf p)
+  unfolding bornOf
+  born-day x h = rw (ip-25 (recOf p), text-is p 25, ← f, is-dated t d e x h, day-is t d e x h)
+
+  pub born-none : d ≡ NoDate → 0 ≡ bornOf (recOf p)
+  unfolding bornOf
+  born-none h = rw (ip-25 (recOf p), text-is p 25, ← f, dated-false t (sym e ∙ h))
+
+pub ruleset for-day-later = (needs, day-after, day-right, day-none)
+
+pub ruleset for-date-later = (needs, date-after, date-before, date-right, date-none)
+
+pub ruleset for-born = (needs, born-day, born-none)
+
+-- version_later
+module _ (t : Text) (x : Bool) (e : x ≡ same t (55 ∷ 46 ∷ 50 ∷ [])) where
+  pub version-right : x ≡ true → 0 ≡ versionLater t
+  unfolding versionLater
+  version-right h = rw (← e, h)
+
+  pub version-wrong : x ≡ false → 3 ≡ versionLater t
+  unfolding versionLater
+  version-wrong h = rw (← e, h)
+
+pub ruleset for-version-later = (needs, version-right, version-wrong)
+
+-- lot_later
+module _ (t : Text) (ps : List Rec) (x : Bool) (e : x ≡ any (lotIs t) ps) where
+  pub lot-twice : x ≡ true → 14 ≡ lotLater t ps
+  unfolding lotLater
+  lot-twice h = rw (← e, h)
+
+  pub lot-once : x ≡ false → 0 ≡ lotLater t ps
+  unfolding lotLater
+  lot-once h = rw (← e, h)
+
+pub ruleset for-lot-later = (needs, lot-twice, lot-once)

@@ -1,0 +1,3 @@
+-- The later rules at a field that is sound, by its text.
+-- Assumes nothing.
+pub mod PlainFields

@@ -1,0 +1,151 @@
+// Verdicts: the lowest rule that is broken at a field with this text, 0 for none.
+use lines::II;
+use lines::IP;
+use lines::IV;
+use rules_forms::basic_rule;
+use rules_forms::is_uli;
+use rules_forms::value;
+use rules_lists::any_lot;
+ghost use mathlib.Core.Bool.{false};
+ghost use mathlib.Core.Path.{_≡_};
+ghost use Rattle.lines.specs.Records.{recOf, recs};
+ghost use Rattle.rules_forms.specs.TextLeaves.{valueOf};
+ghost use Rattle.rules_forms.specs.FieldLeaves.{lowestIn};
+ghost use Rattle.rules_plain.specs.PlainFields.{numberLater, uliLater, dayLater, bornOf, dateLater, versionLater, lotLater};
+
+// Rule 7, of a number and its place.
+fn number_later(n: u32, place: usize) -> u8
+    ensures { λ r. ⌜ r ≡ numberLater n place ⌝ }
+{
+    if n as usize == place { 0 } else { 7 }
+}
+
+// Field 2: rules 1, 2 and 7. The place is the line's among IP, II, IE, IN and IA lines, from 1.
+pub fn number_rule(kind: u8, t: &[u8], place: usize) -> u8
+    ensures { λ r. ⌜ r ≡ lowestIn kind false 2 (now (t .entry)) (numberLater (valueOf (now (t .entry))) place) ⌝ }
+{
+    let r = basic_rule(kind, false, 2, t);
+    if r != 0 {
+        return r;
+    }
+    number_later(value(t), place)
+}
+
+// Rule 6, of a ULI and the IP.
+fn uli_later(t: &[u8], ip: &[u8]) -> u8
+    ensures { λ r. ⌜ r ≡ uliLater (now (t .entry)) (recOf (now (ip .entry))) ⌝ }
+{
+    let uli = lines_fields::field_of(ip, 3);
+    if house::same(t, uli) {
+        return 0;
+    }
+    if is_uli(uli) { 6 } else { 0 }
+}
+
+// Field 3 of a line below an IP: rules 1, 2 and 6.
+pub fn uli_rule(kind: u8, t: &[u8], ip: &[u8]) -> u8
+    ensures { λ r. ⌜ r ≡ lowestIn kind false 3 (now (t .entry)) (uliLater (now (t .entry)) (recOf (now (ip .entry)))) ⌝ }
+{
+    let r = basic_rule(kind, false, 3, t);
+    if r != 0 {
+        return r;
+    }
+    uli_later(t, ip)
+}
+
+// Rule 8, of a date and today.
+fn day_later(t: &[u8], today: u32) -> u8
+    ensures { λ r. ⌜ r ≡ dayLater (now (t .entry)) today ⌝ }
+{
+    let d = dates::Date::of(t);
+    match d {
+        dates::Dated::Day(day) => { if today < day.number { 8 } else { 0 } }
+        dates::Dated::NoDate => 0,
+    }
+}
+
+// IP 25: rules 1, 2 and 8.
+pub fn day_rule(t: &[u8], today: u32) -> u8
+    ensures { λ r. ⌜ r ≡ lowestIn 3 false 25 (now (t .entry)) (dayLater (now (t .entry)) today) ⌝ }
+{
+    let r = basic_rule(IP, false, 25, t);
+    if r != 0 {
+        return r;
+    }
+    day_later(t, today)
+}
+
+// The day of birth that an IP gives, 0 where it gives none.
+pub fn born(ip: &[u8]) -> u32
+    ensures { λ r. ⌜ r ≡ bornOf (recOf (now (ip .entry))) ⌝ }
+{
+    let d = dates::Date::of(lines_fields::field_of(ip, 25));
+    match d {
+        dates::Dated::Day(day) => day.number,
+        dates::Dated::NoDate => 0,
+    }
+}
+
+// Rule 8, of a date, today and the day of birth.
+fn date_later(t: &[u8], today: u32, born: u32) -> u8
+    ensures { λ r. ⌜ r ≡ dateLater (now (t .entry)) today born ⌝ }
+{
+    let d = dates::Date::of(t);
+    match d {
+        dates::Dated::Day(day) => {
+            let n = day.number;
+            if today < n {
+                return 8;
+            }
+            if n < born { 8 } else { 0 }
+        }
+        dates::Dated::NoDate => 0,
+    }
+}
+
+// II 6, IN 5: rules 1, 2 and 8.
+pub fn date_rule(kind: u8, f: usize, t: &[u8], today: u32, born: u32) -> u8
+    ensures { λ r. ⌜ r ≡ lowestIn kind false f (now (t .entry)) (dateLater (now (t .entry)) today born) ⌝ }
+{
+    let r = basic_rule(kind, false, f, t);
+    if r != 0 {
+        return r;
+    }
+    date_later(t, today, born)
+}
+
+// Rule 3, of a version.
+fn version_later(t: &[u8]) -> u8
+    ensures { λ r. ⌜ r ≡ versionLater (now (t .entry)) ⌝ }
+{
+    if house::same(t, b"7.2") { 0 } else { 3 }
+}
+
+// IV 2: rules 1 and 3.
+pub fn version_rule(t: &[u8]) -> u8
+    ensures { λ r. ⌜ r ≡ lowestIn 1 false 2 (now (t .entry)) (versionLater (now (t .entry))) ⌝ }
+{
+    let r = basic_rule(IV, false, 2, t);
+    if r != 0 {
+        return r;
+    }
+    version_later(t)
+}
+
+// Rule 14, of a lot and lines before it.
+fn lot_later(t: &[u8], block: &[u8]) -> u8
+    ensures { λ r. ⌜ r ≡ lotLater (now (t .entry)) (recs (now (block .entry))) ⌝ }
+{
+    if any_lot(t, block) { 14 } else { 0 }
+}
+
+// II 15: rules 1, 2 and 14. The block is its lines before this one.
+pub fn lot_rule(relaxed: bool, t: &[u8], block: &[u8]) -> u8
+    ensures { λ r. ⌜ r ≡ lowestIn 4 relaxed 15 (now (t .entry)) (lotLater (now (t .entry)) (recs (now (block .entry)))) ⌝ }
+{
+    let r = basic_rule(II, relaxed, 15, t);
+    if r != 0 {
+        return r;
+    }
+    lot_later(t, block)
+}

@@ -1,0 +1,5 @@
+-- What the functions' own needs ask.
+-- Assumes nothing.
+mod TableNeeds
+-- No second answer
+mod OneAnswer

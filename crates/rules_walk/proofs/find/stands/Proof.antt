@@ -1,0 +1,19 @@
+-- `rules_walk::find::stands` meets its contract.
+-- Assumes nothing.
+use Rattle.rules_walk.proofs.FindNeeds.{for-stands}
+use Rattle.rules_walk.proofs.find.stands.Statement.{statement}
+use Rattle.rules_walk.proofs.find.stands.Tie as tie
+
+pub stands-spec : {M : Type 1} → statement M
+stands-spec =
+    tie.close
+    (tie.spec
+    (λ c. search for-stands)
+    (λ c. search for-stands)
+    (λ c. search for-stands)
+    (λ c. search for-stands)
+    (λ c. search for-stands)
+    (λ c. search for-stands)
+    (λ c. search for-stands)
+    (λ c. search for-stands)
+    (λ c. search for-stands))

@@ -1,0 +1,17 @@
+-- `rules_walk::line::line_text` meets its contract.
+-- Assumes nothing.
+use Rattle.rules_walk.proofs.PartNeeds.{for-line-text}
+use Rattle.rules_walk.proofs.line.line_text.Statement.{statement}
+use Rattle.rules_walk.proofs.line.line_text.Tie as tie
+
+pub line-text-spec : {M : Type 1} → statement M
+line-text-spec =
+    tie.close
+    (tie.spec
+    (λ c. search for-line-text)
+    (λ c. search for-line-text)
+    (λ c. search for-line-text)
+    (λ c. search for-line-text)
+    (λ c. search for-line-text)
+    (λ c. search for-line-text)
+    (λ c. search for-line-text))

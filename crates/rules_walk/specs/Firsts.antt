@@ -1,0 +1,91 @@
+-- The index of blocks: where the first II line of each block starts, by event.
+-- Assumes nothing.
+use Prim.Native.Nat.{ℕ}
+use mathlib.Core.Bool.{Bool, true, false, cond, _&&_}
+use mathlib.Core.List.{List, [], _∷_, map}
+use lib.ListN.{length, getD, drop}
+use lib.Dec.{ltb, leb}
+use Rattle.house.specs.declared.Order.{Order}
+use Rattle.house.specs.declared.Order.the-variants.{Less, Same, More}
+use Rattle.house.specs.Text.{Text, any, those, same, orderOf}
+use Rattle.house.specs.Search.{byOrder, halve}
+use Rattle.lines_fields.specs.Lines.{lineOf, fieldOf, linesLen}
+use Rattle.lines.specs.Records.{Rec}
+use Rattle.lines_places.specs.Events.{eventAt, eventsAt, ascends}
+use Rattle.lines_places.specs.Sorted.{place, placesMost}
+use Rattle.ledger.specs.Ledger.{Event}
+use Rattle.rules_definitions.specs.Places.{Place, placesIn}
+use Rattle.rules_definitions.specs.Blocks.{begins}
+use Rattle.rules_walk.specs.declared.Built.{Built}
+use Rattle.rules_walk.specs.declared.Built.the-variants.{Blocks, TooMany}
+
+-- where the line starts that has these lines before it
+abbrev pub startAfter : Text → List Rec → ℕ
+startAfter f before = linesLen (length before) f
+
+-- the line is the first II of a block
+abbrev pub isFirst : Place → Bool
+isFirst h = begins (h .line) (h .before)
+
+-- where a line starts
+abbrev pub startOf : Text → Place → ℕ
+startOf f h = startAfter f (h .before)
+
+-- where the first II line of each block starts, in the file's order
+unfoldable pub firstsOf : Text → List ℕ
+firstsOf f = map (startOf f) (those isFirst (placesIn f))
+
+-- the index: these, in the order of their events; those of one event in the file's order
+unfoldable pub indexOf : Text → List ℕ
+indexOf f = place (eventAt f) (firstsOf f) []
+
+-- a first II line that starts before position b names the event
+unfoldable pub namedBefore : Text → ℕ → Event → Bool
+namedBefore f b e = any (λ (p : ℕ). ltb p b && same (eventAt f p) e) (firstsOf f)
+
+-- What is written into an area
+
+-- a list written over the front of an area, as much of it as fits; the rest of the area is as it was
+abbrev pub over : List ℕ → List ℕ → List ℕ
+over [] area = area
+over (x ∷ xs) [] = []
+over (x ∷ xs) (a ∷ area) = x ∷ over xs area
+
+-- the longest file whose index is built
+abbrev pub bytesMost : ℕ
+bytesMost = 5000000
+
+-- the index is built in an area of n places: the file is not too long, and its blocks are not too many to be sorted or for the area
+unfoldable pub canBuild : Text → ℕ → Bool
+canBuild f n = leb (length f) bytesMost && (leb (length (firstsOf f)) placesMost && leb (length (firstsOf f)) n)
+
+-- how many blocks there are, and whether no two of them name one event; too many where the index is not built
+unfoldable pub builtOf : Text → ℕ → Built
+builtOf f n = cond (canBuild f n) (Blocks (length (firstsOf f)) (ascends (eventsAt f (indexOf f)))) TooMany
+
+-- the area after: the index in its front. Where the index is not built: the first II lines in the file's order, as many as fit; of a file that
+-- is too long none is looked for, and the area is as it was.
+unfoldable pub builtIn : Text → List ℕ → List ℕ
+builtIn f area = cond (canBuild f (length area)) (over (indexOf f) area) (cond (leb (length f) bytesMost) (over (firstsOf f) area) area)
+
+-- Submission types
+
+-- the line at position p is of this type, a byte
+unfoldable pub isTyped : Text → ℕ → ℕ → Bool
+isTyped f type p = same (fieldOf (lineOf (drop p f) .text) 4) (type ∷ [])
+
+-- those of these positions whose lines are of this type
+unfoldable pub partOf : Text → ℕ → List ℕ → List ℕ
+partOf f type ps = those (isTyped f type) ps
+
+-- Looking an event up in an index
+
+-- how the line at position p stands to event e, position b being the end of those that count: of lines that name the event, those that
+-- start before b are what is sought, and the others stand above it
+unfoldable pub standing : Text → Event → ℕ → ℕ → Order
+standing f e b p = byOrder (orderOf (eventAt f p) e) Less (cond (ltb p b) Same More) More
+
+-- what halving an index finds. Of the index of the file it is whether a first II line that starts before b names the event.
+unfoldable pub foundBefore : Text → List ℕ → Event → ℕ → Bool
+foundBefore f index e b =
+    halve (λ (i : ℕ). standing f e b (getD index i 0)) (λ (i : ℕ). true) false (length index) 0 (length index)

@@ -1,0 +1,53 @@
+-- What the crate's own functions answer, and what a pass over the lines knows: cited by private contracts and by laws alone. No public
+-- contract rests on this page.
+-- Assumes nothing.
+use Prim.Native.Nat.{ℕ, suc, _+_, _<_}
+use mathlib.Core.Path.{_≡_}
+use mathlib.Core.Bool.{not, cond, _&&_}
+use mathlib.Core.List.{List, [], _∷_, _++_, map}
+use lib.ListN.{length, drop}
+use Rattle.house.specs.Text.{Text, those}
+use Rattle.lines_fields.specs.Lines.{lineOf, lineLen}
+use Rattle.lines.specs.Records.{Rec, IE, isKind, recOf, recs}
+use Rattle.rules_definitions.specs.Places.{placesFrom}
+use Rattle.rules_definitions.specs.Blocks.{isInBlock, joins, nearestOf, openAfter, begins}
+use Rattle.rules_walk.specs.declared.Turn.{Turn}
+use Rattle.rules_walk.specs.Firsts.{startAfter, isFirst, startOf, firstsOf}
+
+-- the line that starts at a position
+unfoldable pub recAt : Text → ℕ → Rec
+recAt f p = recOf (lineOf (drop p f) .text)
+
+-- where the line after it starts
+unfoldable pub nextLine : Text → ℕ → ℕ
+nextLine f p = p + lineLen (drop p f)
+
+-- these are lines of the file from its start on, nearest first
+abbrev pub Passed : Text → List Rec → Type 0
+Passed f [] = Unit {0}
+Passed f (l ∷ before) = (startAfter f before < length f) × (l ≡ recAt f (startAfter f before)) × Passed f before
+
+-- the first II lines that are still to come
+unfoldable pub firstsFrom : Text → List Rec → List Rec → List ℕ
+firstsFrom f before ls = map (startOf f) (those isFirst (placesFrom (suc (length before)) before ls))
+
+-- the first II lines among those passed, nearest first
+abbrev pub firstsIn : Text → List Rec → List ℕ
+firstsIn f [] = []
+firstsIn f (l ∷ before) = cond (begins l before) (startAfter f before ∷ firstsIn f before) (firstsIn f before)
+
+-- a turn of the walk, at the line at position at, where the nearest II of the block that is open starts at last, the file's end being none
+unfoldable pub turnOf : Text → ℕ → ℕ → Turn
+turnOf f at last =
+    record {
+      first = isInBlock (recAt f at) && not (joins (recAt f at) (recAt f last));
+      last = cond (isInBlock (recAt f at)) at (cond (isKind IE (recAt f at)) last (length f));
+      next = nextLine f at;
+    }
+
+-- what the walk knows once it has come to position at: the blocks that it has passed begin at these positions
+pub record Walk (f : Text) (at last : ℕ) (done : List ℕ) : Type 0 where
+  pub before : List Rec
+  pub start : at ≡ startAfter f before
+  pub head : recAt f last ≡ nearestOf (openAfter before)
+  pub found : firstsOf f ≡ done ++ firstsFrom f before (recs (drop at f))

@@ -1,4 +1,0 @@
--- What the functions' own needs ask
-mod SettleNeeds
--- No second answer
-mod OneAnswer

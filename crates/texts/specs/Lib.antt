@@ -1,3 +1,0 @@
--- What the functions on texts answer beside the rules' own definitions.
--- Assumes nothing.
-pub mod Leaves

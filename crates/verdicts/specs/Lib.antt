@@ -1,3 +1,0 @@
--- The later rules at a field that is sound, by its text.
--- Assumes nothing.
-pub mod Later
