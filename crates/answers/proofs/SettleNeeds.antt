@@ -31,7 +31,7 @@ module _ (f : Text) (ix ix′ : List ℕ) (a : ℕ) (ex : ix′ ≡ over (partOf
       let p : take (a - 0) ix′ ≡ partOf f 65 ix = ap (take (a - 0)) ex ∙ over-taken (partOf f 65 ix) ix (a - 0) (omega arith) (part-few f 65 ix) in
       e ∙ ap (λ (gs : List ℕ). updated l f gs ps) p
 
-pub ruleset for-renew-by = (needs, renew-adds, renewed)
+pub ruleset for-update-by = (needs, renew-adds, renewed)
 
 -- renew_in
 module _ (f : Text) (ix out out′ : List ℕ) (d : ℕ) (eo : out′ ≡ over (partOf f 68 ix) out) (ed : d ≡ length (partOf f 68 ix)) (room : length ix ≤ length out) where
@@ -43,7 +43,7 @@ module _ (f : Text) (ix out out′ : List ℕ) (d : ℕ) (eo : out′ ≡ over (
       let p : take (d - 0) out′ ≡ partOf f 68 ix = ap (take (d - 0)) eo ∙ over-taken (partOf f 68 ix) out (d - 0) (omega arith) (omega (arith, part-few f 68 ix)) in
       e ∙ ap (updated l f (partOf f 65 ix)) p
 
-pub ruleset for-renew-in = (needs, renew-deletes, renewed-in)
+pub ruleset for-update-with-deletes = (needs, renew-deletes, renewed-in)
 
 -- where all add, none changes and none deletes
 those-all : (p : ℕ → Bool) (xs : List ℕ) → length (those p xs) ≡ length xs → those p xs ≡ xs
@@ -98,7 +98,7 @@ module _ (f : Text) (ix : List ℕ) (a : ℕ) (ea : a ≡ length (partOf f 65 ix
   unfolding countsOf
   counts-all = rw (no-change, no-delete, ← ea)
 
-pub ruleset for-renew = (needs, all-renewed, all-kept)
+pub ruleset for-bring-up-to-date = (needs, all-renewed, all-kept)
 
 -- count_types
 pub counts-are : (f : Text) (ix : List ℕ) (a c d : ℕ) → a ≡ length (partOf f 65 ix) → c ≡ length (partOf f 67 ix) → d ≡ length (partOf f 68 ix) → record { added = a; changed = c; deleted = d } ≡ countsOf f ix

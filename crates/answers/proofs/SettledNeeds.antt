@@ -11,7 +11,7 @@ use borrow.Author.Tests.{le-leb, leb-true, leb-false, lt-ltb, le-ltb}
 use lib.Dec.{T, leb}
 use lib.ListN.{length, take, length-map}
 use lib.Seq.{length-take-le}
-use Rattle.house.specs.Text.{Text, count}
+use Rattle.house.specs.Text.{Text, howMany}
 use Rattle.house.specs.Members.{In}
 use Rattle.house.proofs.Facts.{is-true}
 use Rattle.house.proofs.Small.{clash}
@@ -19,7 +19,7 @@ use Rattle.lines.specs.Events.{eventAt, eventsAt}
 use Rattle.ledger.specs.Ledger.{Event, slotsIn, liveIn, isAmong, ledgerWith, isFit, updated}
 use Rattle.ledger.proofs.EventLaws.{among-in, in-among}
 use Rattle.ledger.proofs.UpdateLaws.{fit-numbers, updated-fit}
-use Rattle.rules.specs.Places.{placesIn}
+use Rattle.rules.specs.Contexts.{contextsIn}
 use Rattle.rules.specs.Blocks.{eventsOf, adds, changes, deletes}
 use Rattle.rules.specs.Firsts.{indexOf, partOf}
 use Rattle.rules.proofs.TypeLaws.{part-count, part-among, part-ascends, part-after}
@@ -33,9 +33,9 @@ use Rattle.answers.specs.Inside.{Settles, Settling}
 
 -- what is live and added has room in the slots and those of the deleted
 abbrev Fit : Text → Text → Type 0
-Fit f l = length (liveIn l) + length (eventsOf adds (placesIn f)) ≤ slotsIn l + length (eventsOf deletes (placesIn f))
+Fit f l = length (liveIn l) + length (eventsOf adds (contextsIn f)) ≤ slotsIn l + length (eventsOf deletes (contextsIn f))
 
-count-all : (p : Event → Bool) (es : List Event) → ((e : Event) → In e es → p e ≡ true) → count p es ≡ length es
+count-all : (p : Event → Bool) (es : List Event) → ((e : Event) → In e es → p e ≡ true) → howMany p es ≡ length es
 count-all p [] h = refl
 count-all p (e ∷ es) h = rw (h e (inl refl)) (omega (arith, count-all p es (λ x m. h x (inr m))))
 
@@ -47,7 +47,7 @@ module _ (f l : Text) (s : Settles f l) where
   ds : List ℕ
   ds = partOf f 68 (indexOf f)
 
-  all-live : count (isAmong (liveIn l)) (eventsAt f ds) ≡ length (eventsOf deletes (placesIn f))
+  all-live : howMany (isAmong (liveIn l)) (eventsAt f ds) ≡ length (eventsOf deletes (contextsIn f))
   unfolding ds eventsAt
   all-live =
       count-all (isAmong (liveIn l)) (eventsAt f (partOf f 68 (indexOf f)))
@@ -55,7 +55,7 @@ module _ (f l : Text) (s : Settles f l) where
       is-true (isAmong (liveIn l) e)
       (in-among (liveIn l) e
       (s .were-live e
-      (among-in (eventsOf deletes (placesIn f)) e
+      (among-in (eventsOf deletes (contextsIn f)) e
       (subst T (part-among f 68 e) (in-among (eventsAt f (partOf f 68 (indexOf f))) e m))))))
       ∙ length-map (partOf f 68 (indexOf f)) (eventAt f) ∙ part-count f 68
 
@@ -74,10 +74,10 @@ pub front-size : (n : ℕ) (room : List ℕ) → n ≤ length room → n ≡ len
 front-size n room h = sym (length-take-le n room h)
 
 module _ (f l l′ : Text) (live m : ℕ) (ix : List ℕ) (s : Settled) (es : s ≡ settledOf f l live ix) (el : l′ ≡ settledLedger f l live ix) (g : Settling f l live ix m) where
-  part-is : (type : ℕ) → length (partOf f type ix) ≡ length (eventsOf (type ∷ []) (placesIn f))
+  part-is : (type : ℕ) → length (partOf f type ix) ≡ length (eventsOf (type ∷ []) (contextsIn f))
   part-is type = ap (λ (ps : List ℕ). length (partOf f type ps)) (g .index-is) ∙ part-count f type
 
-  room-is : hasRoom f l live ix ≡ leb (length (liveIn l) + length (eventsOf adds (placesIn f))) (slotsIn l + length (eventsOf deletes (placesIn f)))
+  room-is : hasRoom f l live ix ≡ leb (length (liveIn l) + length (eventsOf adds (contextsIn f))) (slotsIn l + length (eventsOf deletes (contextsIn f)))
   unfolding hasRoom
   room-is = rw (le-leb (length ix) 96154 (g .few), g .live-is, part-is 65, part-is 68)
 
@@ -94,8 +94,8 @@ module _ (f l l′ : Text) (live m : ℕ) (ix : List ℕ) (s : Settled) (es : s 
   settled-full z =
       let h : hasRoom f l live ix ≡ false = told-none (hasRoom f l live ix) (sym es ∙ z) in
       let e : l′ ≡ l = el ∙ rw h in
-      let over = leb-false (length (liveIn l) + length (eventsOf adds (placesIn f))) (slotsIn l + length (eventsOf deletes (placesIn f))) (sym room-is ∙ h) in
-      rw (e, lt-ltb (slotsIn l + length (eventsOf deletes (placesIn f))) (length (liveIn l) + length (eventsOf adds (placesIn f))) over)
+      let over = leb-false (length (liveIn l) + length (eventsOf adds (contextsIn f))) (slotsIn l + length (eventsOf deletes (contextsIn f))) (sym room-is ∙ h) in
+      rw (e, lt-ltb (slotsIn l + length (eventsOf deletes (contextsIn f))) (length (liveIn l) + length (eventsOf adds (contextsIn f))) over)
 
   module _ (n : Counts) (z : s ≡ Done n) where
     there : (hasRoom f l live ix ≡ true) × (countsOf f ix ≡ n)
@@ -103,9 +103,9 @@ module _ (f l l′ : Text) (live m : ℕ) (ix : List ℕ) (s : Settled) (es : s 
     there = told (hasRoom f l live ix) n (sym es ∙ z)
 
     fits : Fit f l
-    fits = leb-true (length (liveIn l) + length (eventsOf adds (placesIn f))) (slotsIn l + length (eventsOf deletes (placesIn f))) (sym room-is ∙ there .0)
+    fits = leb-true (length (liveIn l) + length (eventsOf adds (contextsIn f))) (slotsIn l + length (eventsOf deletes (contextsIn f))) (sym room-is ∙ there .0)
 
-    counts-are : (n .added ≡ length (eventsOf adds (placesIn f))) × (n .changed ≡ length (eventsOf changes (placesIn f))) × (n .deleted ≡ length (eventsOf deletes (placesIn f)))
+    counts-are : (n .added ≡ length (eventsOf adds (contextsIn f))) × (n .changed ≡ length (eventsOf changes (contextsIn f))) × (n .deleted ≡ length (eventsOf deletes (contextsIn f)))
     unfolding countsOf
     counts-are =
         let e = sym (there .1) in
@@ -119,7 +119,7 @@ module _ (f l l′ : Text) (live m : ℕ) (ix : List ℕ) (s : Settled) (es : s 
     pub settled-done : left (Accepted (n .added) (n .changed) (n .deleted) m) l′ [] ≡ roomed (lent 0 f [] l [])
     unfolding roomed isFull accepted added changed deleted notImmunized
     settled-done =
-        rw (le-ltb (slotsIn l + length (eventsOf deletes (placesIn f))) (length (liveIn l) + length (eventsOf adds (placesIn f))) fits)
-        (rw (counts-are .0, counts-are .1, counts-are .2, g .declined-is, ledger-is))
+        rw (le-ltb (slotsIn l + length (eventsOf deletes (contextsIn f))) (length (liveIn l) + length (eventsOf adds (contextsIn f))) fits)
+        (rw (counts-are .0, counts-are .1, counts-are .2, g .not-immunized-is, ledger-is))
 
-pub ruleset for-settle-front = (needs, front-size, settled-full, settled-done)
+pub ruleset for-settle-blocks = (needs, front-size, settled-full, settled-done)

@@ -8,7 +8,7 @@ use native.Mathlib.Omega.{arith}
 use borrow.Author.Needs.{needs}
 use borrow.Author.Tests.{lt-ltb, le-ltb, le-leb}
 use lib.ListN.{length, take}
-use Rattle.house.specs.Text.{Text, count, isEmpty}
+use Rattle.house.specs.Text.{Text, howMany, isEmpty}
 use Rattle.dates.specs.Dates.{isDay}
 use Rattle.house.proofs.Small.{clash}
 use Rattle.lines.specs.declared.Shape.{Shape}
@@ -19,7 +19,7 @@ use Rattle.book.specs.declared.Sections.{Sections}
 use Rattle.book.specs.declared.Validity.{Validity as BookValidity}
 use Rattle.book.specs.declared.Validity.the-variants as the-book
 use Rattle.book.specs.Book.{Sound, validOf as bookValid}
-use Rattle.book.specs.LookUp.{guided}
+use Rattle.book.specs.LookUp.{withHashTable}
 use Rattle.book.proofs.StandingLaws.{valid-sound, valid-bad, book-small, guided-starts}
 use Rattle.ledger.specs.declared.Validity.{Validity as LedgerValidity}
 use Rattle.ledger.specs.declared.Validity.the-variants as the-ledger
@@ -92,7 +92,7 @@ module _ (today : ℕ) (file book ledger area : Text) (v : LedgerValidity) (ev :
     unfolding afterBook
     ledger-on o e = rw (ledger-says n z .0) e
 
-pub ruleset for-after-book = (needs, ledger-bad, ledger-ready, ledger-on)
+pub ruleset for-from-ledger = (needs, ledger-bad, ledger-ready, ledger-on)
 
 -- after_ledger
 module _ (today : ℕ) (file book ledger area : Text) (s : Shape) (es : s ≡ shapeOf file) where
@@ -107,7 +107,7 @@ module _ (today : ℕ) (file book ledger area : Text) (s : Shape) (es : s ≡ sh
   unfolding afterLedger
   shape-on z o e = rw (← es, z) e
 
-pub ruleset for-after-ledger = (needs, shape-fault, shape-right, shape-on)
+pub ruleset for-from-shape = (needs, shape-fault, shape-right, shape-on)
 
 -- judging
 take-none : {A : Type 0} (n : ℕ) → take {A = A} n [] ≡ []
@@ -146,7 +146,7 @@ module _ (today : ℕ) (file bytes ledger area : Text) (q : Sections) (live : �
   unfolding findingsBy findings settingOf
   by-look-up = ap (λ (s : Setting). findingsOf s file) (setting-is today bytes q ledger live (ready .book) (ready .ledger) (ready .live-is))
 
-  judged-is : shapeOf file ≡ Right → (k : ℕ) → k ≡ 96154 → (j : Judged) → j ≡ judgedOf today file bytes q ledger live k → j ≡ Done (length (firstsOf file)) (length (findings (lent today file (take (q .end) bytes) ledger area))) (count (isKind IN) (recs file))
+  judged-is : shapeOf file ≡ Right → (k : ℕ) → k ≡ 96154 → (j : Judged) → j ≡ judgedOf today file bytes q ledger live k → j ≡ Done (length (firstsOf file)) (length (findings (lent today file (take (q .end) bytes) ledger area))) (howMany (isKind IN) (recs file))
   unfolding judgedOf
   judged-is right k size j e = e ∙ rw (can file right (ready .short) k size, by-look-up)
 
@@ -155,10 +155,10 @@ module _ (today : ℕ) (file bytes ledger area : Text) (j : Judged) (q : Section
   pub tally-is : (b n m : ℕ) → j ≡ Done b n m → tally b n m ≡ tallyOf (lent today file (take (q .end) bytes) ledger area)
   unfolding tallyOf notImmunized
   tally-is b n m z =
-      let e : Done b n m ≡ Done (length (firstsOf file)) (length (findings (lent today file (take (q .end) bytes) ledger area))) (count (isKind IN) (recs file)) = sym z ∙ judged-is today file bytes ledger area q live ready right k size j ej in
+      let e : Done b n m ≡ Done (length (firstsOf file)) (length (findings (lent today file (take (q .end) bytes) ledger area))) (howMany (isKind IN) (recs file)) = sym z ∙ judged-is today file bytes ledger area q live ready right k size j ej in
       let eb : b ≡ length (firstsOf file) = cc in
       let en : n ≡ length (findings (lent today file (take (q .end) bytes) ledger area)) = cc in
-      let em : m ≡ count (isKind IN) (recs file) = cc in
+      let em : m ≡ howMany (isKind IN) (recs file) = cc in
       rw (eb, en, em)
 
   pub tally-never : (t : Tally) → j ≡ TooMany → t ≡ tallyOf (lent today file (take (q .end) bytes) ledger area)
@@ -179,9 +179,9 @@ module _ (today : ℕ) (file book ledger area : Text) (t : Tally) (et : t ≡ ta
   unfolding tallyOf
   blocks-are = ap (λ (u : Tally). u .blocks) et
 
-  declined-are : t .declined ≡ count (isKind IN) (recs file)
+  not-immunized-are : t .«not_immunized» ≡ howMany (isKind IN) (recs file)
   unfolding tallyOf notImmunized
-  declined-are = ap (λ (u : Tally). u .declined) et
+  not-immunized-are = ap (λ (u : Tally). u .«not_immunized») et
 
   no-findings : t .findings ≡ 0 → findings (lent today file book ledger area) ≡ []
   no-findings f = go (findings (lent today file book ledger area)) (sym found-are ∙ f)
@@ -220,7 +220,7 @@ module _ (today : ℕ) (file book ledger area : Text) (t : Tally) (et : t ≡ ta
                 live-is = ready .live-is;
                 index-is = index-front;
                 few = omega (arith, ap length index-front, fits);
-                declined-is = declined-are;
+                not-immunized-is = not-immunized-are;
               };
         }
 
@@ -235,7 +235,7 @@ module _ (today : ℕ) (file bytes ledger area : Text) (j : Judged) (q : Section
   pub never-judges : (t : Tally) → j ≡ TooMany → Judges file ledger live t room′
   never-judges t z = clash (cc (judged-is today file bytes ledger area q live ready right (length room) size j ej))
 
-pub ruleset for-judge-all = (needs, tally-is, tally-never, tally-area, tally-judges, never-judges)
+pub ruleset for-judge-into = (needs, tally-is, tally-never, tally-area, tally-judges, never-judges)
 
 -- judged_in
 module _ (today : ℕ) (file book ledger area : Text) (t : Tally) (et : t ≡ tallyOf (lent today file book ledger area)) where
@@ -256,13 +256,13 @@ module _ (file ledger : Text) (live : ℕ) (t : Tally) (room : List ℕ) (g : Ju
   pub judges-part : t .blocks ≤ length room
   judges-part = g .part
 
-  pub judges-settling : t .findings ≡ 0 → Settling file ledger live (take (t .blocks) room) (t .declined)
+  pub judges-settling : t .findings ≡ 0 → Settling file ledger live (take (t .blocks) room) (t .«not_immunized»)
   judges-settling f = g .settling f
 
-pub ruleset for-judged-in = (needs, with-findings, settled-on, judges-part, judges-settling)
+pub ruleset for-judge-and-settle = (needs, with-findings, settled-on, judges-part, judges-settling)
 
 -- judged_by
-module _ (today : ℕ) (file book ledger area : Text) (q : Sections) (live : ℕ) (ready : Ready (lent today file book ledger area) q live) (room bytes : Text) (size : length room ≡ 327680) (e : bytes ≡ guided book q room) where
+module _ (today : ℕ) (file book ledger area : Text) (q : Sections) (live : ℕ) (ready : Ready (lent today file book ledger area) q live) (room bytes : Text) (size : length room ≡ 327680) (e : bytes ≡ withHashTable book q room) where
   starts : take (q .end) bytes ≡ book
   starts = ap (take (q .end)) e ∙ guided-starts book q room (ready .book) (omega (arith, book-small book q (ready .book)))
 
@@ -272,4 +272,4 @@ module _ (today : ℕ) (file book ledger area : Text) (q : Sections) (live : ℕ
   pub guided-on : (o : Outcome) → o ≡ judged (lent today file (take (q .end) bytes) ledger area) → o ≡ judged (lent today file book ledger area)
   guided-on o f = f ∙ ap (λ (b : Text). judged (lent today file b ledger area)) starts
 
-pub ruleset for-judged-by = (needs, guided-ready, guided-on)
+pub ruleset for-judge-by-hash = (needs, guided-ready, guided-on)

@@ -6,7 +6,7 @@ use mathlib.Core.Bool.{Bool, true, false, not, cond}
 use mathlib.Core.List.{List, [], _∷_}
 use lib.ListN.{length}
 use lib.Dec.{ltb}
-use Rattle.house.specs.Text.{Text, count, isEmpty}
+use Rattle.house.specs.Text.{Text, howMany, isEmpty}
 use Rattle.dates.specs.Dates.{isDay}
 use Rattle.lines.specs.Records.{IN, isKind, recs}
 use Rattle.lines.specs.Shape.{shapeOf}
@@ -14,7 +14,7 @@ use Rattle.lines.specs.declared.Shape.{Shape}
 use Rattle.lines.specs.declared.Shape.the-variants as shape
 use Rattle.book.specs.Book.{bookOk, bookOf, listed, listedOn}
 use Rattle.ledger.specs.Ledger.{Event, slotsIn, ledgerOk, liveIn, isAmong, eventsAfter, ledgerWith}
-use Rattle.rules.specs.Places.{placesIn}
+use Rattle.rules.specs.Contexts.{contextsIn}
 use Rattle.rules.specs.Blocks.{eventsOf, adds, changes, deletes}
 use Rattle.rules.specs.Seen.{Setting}
 use Rattle.rules.specs.Findings.{Finding, findingsOf, areaAfter}
@@ -60,17 +60,17 @@ findings x = findingsOf (settingOf x) (x .file)
 
 -- the events of the blocks added, changed, deleted
 unfoldable pub added : Lent → List Event
-added x = eventsOf adds (placesIn (x .file))
+added x = eventsOf adds (contextsIn (x .file))
 
 unfoldable pub changed : Lent → List Event
-changed x = eventsOf changes (placesIn (x .file))
+changed x = eventsOf changes (contextsIn (x .file))
 
 unfoldable pub deleted : Lent → List Event
-deleted x = eventsOf deletes (placesIn (x .file))
+deleted x = eventsOf deletes (contextsIn (x .file))
 
 -- "IN records aren't kept in the ledger.": they are counted
 unfoldable pub notImmunized : Lent → ℕ
-notImmunized x = count (isKind IN) (recs (x .file))
+notImmunized x = howMany (isKind IN) (recs (x .file))
 
 -- "live + added - deleted exceeds the slots": "Room freed by a file serves the same file."
 unfoldable pub isFull : Lent → Bool

@@ -5,14 +5,14 @@ use mathlib.Core.Path.{_≡_}
 use mathlib.Core.Bool.{true, not, cond}
 use mathlib.Core.List.{List}
 use lib.ListN.{length, take}
-use Rattle.house.specs.Text.{Text, count}
+use Rattle.house.specs.Text.{Text, howMany}
 use Rattle.house.specs.Members.{In, Distinct}
 use Rattle.lines.specs.Records.{IN, isKind, recs}
 use Rattle.lines.specs.Shape.{shapeOf}
 use Rattle.book.specs.declared.Sections.{Sections}
 use Rattle.book.specs.Book.{Sound}
 use Rattle.ledger.specs.Ledger.{Event, ledgerOk, liveIn}
-use Rattle.rules.specs.Places.{placesIn}
+use Rattle.rules.specs.Contexts.{contextsIn}
 use Rattle.rules.specs.Blocks.{eventsOf, adds, deletes}
 use Rattle.rules.specs.Firsts.{firstsOf, indexOf}
 use Rattle.answers.specs.declared.steps.Tally.{Tally}
@@ -35,7 +35,7 @@ pub record Ready (x : Lent) (q : Sections) (live : ℕ) : Type 0 where
   pub live-is : live ≡ length (liveIn (x .ledger))
 
 abbrev pub tally : ℕ → ℕ → ℕ → Tally
-tally blocks found declined = record { blocks = blocks; findings = found; declined = declined }
+tally blocks found «not_immunized» = record { blocks = blocks; findings = found; «not_immunized» = not-immunized }
 
 -- how many blocks, findings and IN records there are
 unfoldable pub tallyOf : Lent → Tally
@@ -44,19 +44,19 @@ tallyOf x = tally (length (firstsOf (x .file))) (length (findings x)) (notImmuni
 -- the ledger is well formed, and the blocks of the file name events once, those that it deletes being live
 pub record Settles (file ledger : Text) : Type 0 where
   pub ok : ledgerOk ledger ≡ true
-  pub adds-once : Distinct (eventsOf adds (placesIn file))
-  pub deletes-once : Distinct (eventsOf deletes (placesIn file))
-  pub were-live : (e : Event) → In e (eventsOf deletes (placesIn file)) → In e (liveIn ledger)
+  pub adds-once : Distinct (eventsOf adds (contextsIn file))
+  pub deletes-once : Distinct (eventsOf deletes (contextsIn file))
+  pub were-live : (e : Event) → In e (eventsOf deletes (contextsIn file)) → In e (liveIn ledger)
 
 -- that, with so many live events, the index of the blocks, and so many IN records
-pub record Settling (file ledger : Text) (live : ℕ) (index : List ℕ) (declined : ℕ) : Type 0 where
+pub record Settling (file ledger : Text) (live : ℕ) (index : List ℕ) (not-immunized : ℕ) : Type 0 where
   pub settles : Settles file ledger
   pub live-is : live ≡ length (liveIn ledger)
   pub index-is : index ≡ indexOf file
   pub few : length index ≤ 96154
-  pub declined-is : declined ≡ count (isKind IN) (recs file)
+  pub not-immunized-is : not-immunized ≡ howMany (isKind IN) (recs file)
 
 -- judging leaves the index of the blocks at the front of a room, and where there are no findings the file can be settled
 pub record Judges (file ledger : Text) (live : ℕ) (t : Tally) (room : List ℕ) : Type 0 where
   pub part : t .blocks ≤ length room
-  pub settling : t .findings ≡ 0 → Settling file ledger live (take (t .blocks) room) (t .declined)
+  pub settling : t .findings ≡ 0 → Settling file ledger live (take (t .blocks) room) (t .«not_immunized»)

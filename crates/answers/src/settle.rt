@@ -20,7 +20,7 @@ pub(crate) enum Settled {
 }
 
 // Brings the ledger up to date by the index of the blocks and the places of those deleted. The index keeps the places of those added.
-fn renew_by(file: &[u8], ledger: &mut [u8], index: &mut [u32], deletes: &[u32])
+fn update_by(file: &[u8], ledger: &mut [u8], index: &mut [u32], deletes: &[u32])
     ensures { λ _. ⌜ now (ledger .exit) ≡ updated (now (ledger .entry)) (now (file .entry)) (partOf (now (file .entry)) 65 (now (index .entry))) (now (deletes .entry)) ⌝ }
     ensures { λ _. ⌜ now (index .exit) ≡ over (partOf (now (file .entry)) 65 (now (index .entry))) (now (index .entry)) ⌝ }
 {
@@ -30,28 +30,28 @@ fn renew_by(file: &[u8], ledger: &mut [u8], index: &mut [u32], deletes: &[u32])
 }
 
 // The same, in a room for the places of those deleted.
-fn renew_in(file: &[u8], ledger: &mut [u8], index: &mut [u32], deletes: &mut [u32])
+fn update_with_deletes(file: &[u8], ledger: &mut [u8], index: &mut [u32], deletes: &mut [u32])
     requires { ⌜ length (now index) ≤ length (now deletes) ⌝ }
     ensures { λ _. ⌜ now (ledger .exit) ≡ updated (now (ledger .entry)) (now (file .entry)) (partOf (now (file .entry)) 65 (now (index .entry))) (partOf (now (file .entry)) 68 (now (index .entry))) ⌝ }
     ensures { λ _. ⌜ now (index .exit) ≡ over (partOf (now (file .entry)) 65 (now (index .entry))) (now (index .entry)) ⌝ }
 {
     let from = 0;
     let d = rules::part_of(file, index, b'D', deletes);
-    renew_by(file, ledger, index, &deletes[from..d]);
+    update_by(file, ledger, index, &deletes[from..d]);
 }
 
 // The same, in a room of its own.
-fn renew_parts(file: &[u8], ledger: &mut [u8], index: &mut [u32])
+fn lend_delete_buffer(file: &[u8], ledger: &mut [u8], index: &mut [u32])
     requires { ⌜ length (now index) ≤ 96154 ⌝ }
     ensures { λ _. ⌜ now (ledger .exit) ≡ updated (now (ledger .entry)) (now (file .entry)) (partOf (now (file .entry)) 65 (now (index .entry))) (partOf (now (file .entry)) 68 (now (index .entry))) ⌝ }
     ensures { λ _. ⌜ now (index .exit) ≡ over (partOf (now (file .entry)) 65 (now (index .entry))) (now (index .entry)) ⌝ }
 {
     let mut deletes = [0u32; 96154];
-    renew_in(file, ledger, index, &mut deletes);
+    update_with_deletes(file, ledger, index, &mut deletes);
 }
 
 // Brings the ledger up to date by the index of the blocks, so many of which add. Where all do, their places are the index as it is.
-fn renew(file: &[u8], ledger: &mut [u8], index: &mut [u32], added: usize)
+fn bring_up_to_date(file: &[u8], ledger: &mut [u8], index: &mut [u32], added: usize)
     requires { ⌜ added ≡ length (partOf (now file) 65 (now index)) ⌝ }
     requires { ⌜ length (now index) ≤ 96154 ⌝ }
     ensures { λ _. ⌜ now (ledger .exit) ≡ updated (now (ledger .entry)) (now (file .entry)) (partOf (now (file .entry)) 65 (now (index .entry))) (partOf (now (file .entry)) 68 (now (index .entry))) ⌝ }
@@ -61,7 +61,7 @@ fn renew(file: &[u8], ledger: &mut [u8], index: &mut [u32], added: usize)
         let all = &index[..];
         ledger::update(ledger, file, all, &all[..0]);
     } else {
-        renew_parts(file, ledger, index);
+        lend_delete_buffer(file, ledger, index);
     }
 }
 
@@ -119,7 +119,7 @@ pub(crate) fn settle(file: &[u8], ledger: &mut [u8], live: usize, index: &mut [u
     match s {
         Settled::Done(n) => {
             let added = n.added;
-            renew(file, ledger, index, added);
+            bring_up_to_date(file, ledger, index, added);
             Settled::Done(n)
         }
         Settled::NoRoom => Settled::NoRoom,

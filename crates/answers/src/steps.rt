@@ -20,56 +20,56 @@ ghost use Rattle.answers.specs.Inside.{afterBook, afterLedger, tallyOf, 
 struct Tally {
     blocks: usize,
     findings: usize,
-    declined: usize,
+    not_immunized: usize,
 }
 
 // Judges a file of right shape, by a book with its guesses: the findings go to their area, and the index of the blocks to the front of a room.
-fn judge_all(
+fn judge_into(
     today: u32,
     file: &[u8],
-    guided: &[u8],
+    withHashTable: &[u8],
     q: Sections,
     ledger: &[u8],
     live: usize,
     area: &mut [u8],
     room: &mut [u32],
 ) -> Tally
-    requires { ⌜ Ready (lent today (now file) (take (q .end) (now guided)) (now ledger) (now area)) q live ⌝ }
+    requires { ⌜ Ready (lent today (now file) (take (q .end) (now withHashTable)) (now ledger) (now area)) q live ⌝ }
     requires { ⌜ shapeOf (now file) ≡ Right ⌝ }
     requires { ⌜ length (now room) ≡ 96154 ⌝ }
-    ensures { λ r. ⌜ r ≡ tallyOf (lent today (now (file .entry)) (take (q .end) (now (guided .entry))) (now (ledger .entry)) (now (area .entry))) ⌝ }
-    ensures { λ _. ⌜ now (area .exit) ≡ areaAfter (now (area .entry)) (findings (lent today (now (file .entry)) (take (q .end) (now (guided .entry))) (now (ledger .entry)) (now (area .entry)))) ⌝ }
+    ensures { λ r. ⌜ r ≡ tallyOf (lent today (now (file .entry)) (take (q .end) (now (withHashTable .entry))) (now (ledger .entry)) (now (area .entry))) ⌝ }
+    ensures { λ _. ⌜ now (area .exit) ≡ areaAfter (now (area .entry)) (findings (lent today (now (file .entry)) (take (q .end) (now (withHashTable .entry))) (now (ledger .entry)) (now (area .entry)))) ⌝ }
     ensures { λ r. ⌜ Judges (now (file .entry)) (now (ledger .entry)) live r (now (room .exit)) ⌝ }
 {
-    let j = rules::judge(today, file, guided, q, ledger, live, room, area);
+    let j = rules::judge(today, file, withHashTable, q, ledger, live, room, area);
     match j {
         Judged::Done {
             blocks,
             findings,
-            declined,
+            not_immunized,
         } => Tally {
             blocks,
             findings,
-            declined,
+            not_immunized,
         },
         Judged::TooMany => Tally {
             blocks: 0,
             findings: 0,
-            declined: 0,
+            not_immunized: 0,
         },
     }
 }
 
 // From FULL on, of a file without findings, by the index of its blocks at the front of a room. What the room holds is lost.
-fn settle_front(
+fn settle_blocks(
     file: &[u8],
     ledger: &mut [u8],
     live: usize,
     room: &mut [u32],
     blocks: usize,
-    declined: usize,
+    not_immunized: usize,
 ) -> Answer
-    requires { ⌜ Settling (now file) (now ledger) live (take blocks (now room)) declined ⌝ }
+    requires { ⌜ Settling (now file) (now ledger) live (take blocks (now room)) not_immunized ⌝ }
     requires { ⌜ blocks ≤ length (now room) ⌝ }
     ensures { λ r. ⌜ left r (now (ledger .exit)) [] ≡ roomed (lent 0 (now (file .entry)) [] (now (ledger .entry)) []) ⌝ }
 {
@@ -79,57 +79,57 @@ fn settle_front(
             added: n.added,
             changed: n.changed,
             deleted: n.deleted,
-            not_immunized: declined,
+            not_immunized,
         },
         Settled::NoRoom => Answer::Full,
     }
 }
 
 // From FINDINGS on, by a book with its guesses, in a room for the index.
-fn judged_in(
+fn judge_and_settle(
     today: u32,
     file: &[u8],
-    guided: &[u8],
+    withHashTable: &[u8],
     q: Sections,
     ledger: &mut [u8],
     live: usize,
     area: &mut [u8],
     room: &mut [u32],
 ) -> Answer
-    requires { ⌜ Ready (lent today (now file) (take (q .end) (now guided)) (now ledger) (now area)) q live ⌝ }
+    requires { ⌜ Ready (lent today (now file) (take (q .end) (now withHashTable)) (now ledger) (now area)) q live ⌝ }
     requires { ⌜ shapeOf (now file) ≡ Right ⌝ }
     requires { ⌜ length (now room) ≡ 96154 ⌝ }
-    ensures { λ r. ⌜ left r (now (ledger .exit)) (now (area .exit)) ≡ judged (lent today (now (file .entry)) (take (q .end) (now (guided .entry))) (now (ledger .entry)) (now (area .entry))) ⌝ }
+    ensures { λ r. ⌜ left r (now (ledger .exit)) (now (area .exit)) ≡ judged (lent today (now (file .entry)) (take (q .end) (now (withHashTable .entry))) (now (ledger .entry)) (now (area .entry))) ⌝ }
 {
-    let n = judge_all(today, file, guided, q, ledger, live, area, room);
+    let n = judge_into(today, file, withHashTable, q, ledger, live, area, room);
     let findings = n.findings;
     if findings == 0 {
-        settle_front(file, ledger, live, room, n.blocks, n.declined)
+        settle_blocks(file, ledger, live, room, n.blocks, n.not_immunized)
     } else {
         Answer::Findings(findings)
     }
 }
 
 // From FINDINGS on, by a book with its guesses. A file of right shape has 96154 blocks at most.
-fn judged_with(
+fn lend_index_buffer(
     today: u32,
     file: &[u8],
-    guided: &[u8],
+    withHashTable: &[u8],
     q: Sections,
     ledger: &mut [u8],
     live: usize,
     area: &mut [u8],
 ) -> Answer
-    requires { ⌜ Ready (lent today (now file) (take (q .end) (now guided)) (now ledger) (now area)) q live ⌝ }
+    requires { ⌜ Ready (lent today (now file) (take (q .end) (now withHashTable)) (now ledger) (now area)) q live ⌝ }
     requires { ⌜ shapeOf (now file) ≡ Right ⌝ }
-    ensures { λ r. ⌜ left r (now (ledger .exit)) (now (area .exit)) ≡ judged (lent today (now (file .entry)) (take (q .end) (now (guided .entry))) (now (ledger .entry)) (now (area .entry))) ⌝ }
+    ensures { λ r. ⌜ left r (now (ledger .exit)) (now (area .exit)) ≡ judged (lent today (now (file .entry)) (take (q .end) (now (withHashTable .entry))) (now (ledger .entry)) (now (area .entry))) ⌝ }
 {
     let mut room = [0u32; 96154];
-    judged_in(today, file, guided, q, ledger, live, area, &mut room)
+    judge_and_settle(today, file, withHashTable, q, ledger, live, area, &mut room)
 }
 
 // From FINDINGS on, in a room for the book with its guesses.
-fn judged_by(
+fn judge_by_hash(
     today: u32,
     file: &[u8],
     book: &[u8],
@@ -144,12 +144,12 @@ fn judged_by(
     requires { ⌜ length (now room) ≡ 327680 ⌝ }
     ensures { λ r. ⌜ left r (now (ledger .exit)) (now (area .exit)) ≡ judged (lent today (now (file .entry)) (now (book .entry)) (now (ledger .entry)) (now (area .entry))) ⌝ }
 {
-    book::guide(book, q, room);
-    judged_with(today, file, room, q, ledger, live, area)
+    book::hash_book(book, q, room);
+    lend_index_buffer(today, file, room, q, ledger, live, area)
 }
 
 // From FINDINGS on. A book has 262144 bytes at most, and its guesses have 65536.
-fn judged(
+fn lend_book_buffer(
     today: u32,
     file: &[u8],
     book: &[u8],
@@ -163,11 +163,11 @@ fn judged(
     ensures { λ r. ⌜ left r (now (ledger .exit)) (now (area .exit)) ≡ judged (lent today (now (file .entry)) (now (book .entry)) (now (ledger .entry)) (now (area .entry))) ⌝ }
 {
     let mut room = [0u8; 327680];
-    judged_by(today, file, book, q, ledger, live, area, &mut room)
+    judge_by_hash(today, file, book, q, ledger, live, area, &mut room)
 }
 
 // From SHAPE on.
-fn after_ledger(
+fn from_shape(
     today: u32,
     file: &[u8],
     book: &[u8],
@@ -181,13 +181,13 @@ fn after_ledger(
 {
     let s = lines::shape_of(file);
     match s {
-        Shape::Right => judged(today, file, book, q, ledger, live, area),
+        Shape::Right => lend_book_buffer(today, file, book, q, ledger, live, area),
         Shape::Fault { line, cause } => Answer::Shape { line, cause },
     }
 }
 
 // From LEDGER on.
-fn after_book(
+fn from_ledger(
     today: u32,
     file: &[u8],
     book: &[u8],
@@ -201,7 +201,7 @@ fn after_book(
 {
     let v = ledger::valid(ledger);
     match v {
-        ledger::Validity::Sound { live } => after_ledger(today, file, book, q, ledger, live, area),
+        ledger::Validity::Sound { live } => from_shape(today, file, book, q, ledger, live, area),
         ledger::Validity::Malformed => Answer::Ledger,
     }
 }
@@ -216,7 +216,7 @@ pub fn check(today: u32, file: &[u8], book: &[u8], ledger: &mut [u8], area: &mut
         }
         let v = book::valid(book);
         match v {
-            book::Validity::Valid(q) => after_book(today, file, book, q, ledger, area),
+            book::Validity::Valid(q) => from_ledger(today, file, book, q, ledger, area),
             book::Validity::Malformed => Answer::Book,
         }
     } else {

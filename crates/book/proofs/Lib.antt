@@ -7,7 +7,7 @@ pub mod FormLaws
 pub mod ReadLaws
 pub mod RunLaws
 pub mod SearchLaws
-pub mod GuessLaws
+pub mod HashLaws
 pub mod ForceLaws
 pub mod KindLaws
 pub mod StandingLaws

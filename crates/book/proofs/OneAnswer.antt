@@ -12,7 +12,7 @@ use Rattle.book.specs.declared.Validity.{Validity}
 use Rattle.book.specs.declared.Found.{Found}
 use Rattle.book.specs.declared.Standing.{Standing}
 use Rattle.book.specs.Book.{readAt, validOf}
-use Rattle.book.specs.LookUp.{foundIn, inForceAt, standingIn, guided}
+use Rattle.book.specs.LookUp.{foundIn, inForceAt, standingIn, withHashTable}
 
 pub read-one : (p : Position) (s : Text) (x y : Read) → x ≡ readAt (p .at) (drop (p .at) s) → y ≡ readAt (p .at) (drop (p .at) s) → x ≡ y
 read-one p s x y e f = cc
@@ -29,5 +29,5 @@ in-force-one s p d x y e f = cc
 pub look-up-one : (s : Text) (q : Sections) (k : ℕ) (a b : Text) (d : ℕ) (x y : Standing) → x ≡ standingIn s q k a b d → y ≡ standingIn s q k a b d → x ≡ y
 look-up-one s q k a b d x y e f = cc
 
-pub guide-one : (s : Text) (q : Sections) (room x y : Text) → x ≡ guided s q room → y ≡ guided s q room → x ≡ y
+pub guide-one : (s : Text) (q : Sections) (room x y : Text) → x ≡ withHashTable s q room → y ≡ withHashTable s q room → x ≡ y
 guide-one s q room x y e f = cc

@@ -13,7 +13,7 @@ use lib.Dec.{leb}
 use lib.ListN.{length, take, drop, length-drop}
 use lib.Seq.{drop-drop, take-add, length-take-le}
 use Rattle.house.specs.Text.{Text, orderOf, pad}
-use Rattle.house.specs.Search.{halve}
+use Rattle.house.specs.Search.{binarySearch}
 use Rattle.house.specs.declared.Order.{Order}
 use Rattle.house.specs.declared.Order.the-variants.{Less, Same, More}
 use Rattle.house.proofs.Small.{both}
@@ -25,7 +25,7 @@ use Rattle.book.specs.declared.Position.{Position}
 use Rattle.book.specs.declared.Found.{Found}
 use Rattle.book.specs.declared.Found.the-variants.{At, Absent}
 use Rattle.book.specs.Book.{firstWidth, secondWidth, codeWidth, bodyWidth, filled, codeText}
-use Rattle.book.specs.LookUp.{sectionStart, countIn, placeOf, orderAt, foundAt, fits, guess, foundIf, guessedIn, halvedIn, soughtIn, foundIn}
+use Rattle.book.specs.LookUp.{sectionStart, countIn, placeOf, orderAt, foundAt, fits, guess, foundIf, hashedIn, searchedIn, soughtIn, foundIn}
 use Rattle.book.specs.Inside.{codePadded, codeOrder}
 use Rattle.book.proofs.WidthLaws.{code-parts, body-parts}
 
@@ -179,20 +179,20 @@ pub ruleset for-found-if = (needs, found-less, found-more, found-same)
 
 -- guessed
 module _ (s : Text) (q : Sections) (k : ℕ) (a b : Text) (f : fits k a b ≡ true) (from n i : ℕ) (ef : from ≡ sectionStart q k) (en : n ≡ countIn s q k) (ei : i ≡ guess s q k (codeText k a b)) where
-  pub guessed-past : n ≤ i → Absent ≡ guessedIn s q k (codeText k a b)
-  unfolding guessedIn
+  pub guessed-past : n ≤ i → Absent ≡ hashedIn s q k (codeText k a b)
+  unfolding hashedIn
   guessed-past h = rw (← en, ← ei, le-ltb i n h)
 
-  pub guessed-is : (r : Found) (o : Order) (at w p v : ℕ) → i < n → w ≡ bodyWidth k + 1 → p ≡ firstWidth k → v ≡ secondWidth k → at ≡ from + i * w → o ≡ codeOrder s (from + i * w + 1) p v a b → r ≡ foundIf o at → r ≡ guessedIn s q k (codeText k a b)
-  unfolding guessedIn orderAt placeOf codeOrder codePadded codeWidth
+  pub guessed-is : (r : Found) (o : Order) (at w p v : ℕ) → i < n → w ≡ bodyWidth k + 1 → p ≡ firstWidth k → v ≡ secondWidth k → at ≡ from + i * w → o ≡ codeOrder s (from + i * w + 1) p v a b → r ≡ foundIf o at → r ≡ hashedIn s q k (codeText k a b)
+  unfolding hashedIn orderAt placeOf codeOrder codePadded codeWidth
   guessed-is r o at w p v h ew ep eq ea eo er =
       er ∙ rw (eo, ea, ← en, ← ei, lt-ltb i n h, ← ef, code-text k a b f, ew, ep, eq)
 
-pub ruleset for-guessed = (needs, count-from, guessed-past, guessed-is)
+pub ruleset for-at-hash = (needs, count-from, guessed-past, guessed-is)
 
--- seek: what is left to halve
+-- seek: what is left to binarySearch
 abbrev pub Seeks : Text → ℕ → ℕ → ℕ → Text → ℕ → ℕ → Type 0
-Seeks s k from n x lo hi = Halves (orderAt s k from x) (foundAt k from) Absent (halve (orderAt s k from x) (foundAt k from) Absent n 0 n) lo hi
+Seeks s k from n x lo hi = Halves (orderAt s k from x) (foundAt k from) Absent (binarySearch (orderAt s k from x) (foundAt k from) Absent n 0 n) lo hi
 
 module _ (s : Text) (k from n : ℕ) where
   pub seek-start : (x : Text) → Seeks s k from n x 0 n
@@ -205,36 +205,36 @@ module _ (s : Text) (k from n : ℕ) where
       probed = rw (e, ew, ep, eq)
 
       pub seek-up : o ≡ Less → Seeks s k from n (codePadded k a b) (lo + (hi - lo) / 2 + 1) hi
-      seek-up z = turn-up (orderAt s k from (codePadded k a b)) (foundAt k from) Absent (halve (orderAt s k from (codePadded k a b)) (foundAt k from) Absent n 0 n) lo hi inv h o probed z
+      seek-up z = turn-up (orderAt s k from (codePadded k a b)) (foundAt k from) Absent (binarySearch (orderAt s k from (codePadded k a b)) (foundAt k from) Absent n 0 n) lo hi inv h o probed z
 
       pub seek-down : o ≡ More → Seeks s k from n (codePadded k a b) lo (lo + (hi - lo) / 2)
-      seek-down z = turn-down (orderAt s k from (codePadded k a b)) (foundAt k from) Absent (halve (orderAt s k from (codePadded k a b)) (foundAt k from) Absent n 0 n) lo hi inv h o probed z
+      seek-down z = turn-down (orderAt s k from (codePadded k a b)) (foundAt k from) Absent (binarySearch (orderAt s k from (codePadded k a b)) (foundAt k from) Absent n 0 n) lo hi inv h o probed z
 
     module _ (j : Sections) (ef : from ≡ sectionStart j k) (en : n ≡ countIn s j k) (f : fits k a b ≡ true) where
-      sought : halve (orderAt s k from (codePadded k a b)) (foundAt k from) Absent n 0 n ≡ halvedIn s j k (codeText k a b)
-      unfolding halvedIn
+      sought : binarySearch (orderAt s k from (codePadded k a b)) (foundAt k from) Absent n 0 n ≡ searchedIn s j k (codeText k a b)
+      unfolding searchedIn
       sought = rw (ef, en, code-text k a b f)
 
-      pub seek-end : hi ≤ lo → Absent ≡ halvedIn s j k (codeText k a b)
-      seek-end h = halves-end (orderAt s k from (codePadded k a b)) (foundAt k from) Absent (halve (orderAt s k from (codePadded k a b)) (foundAt k from) Absent n 0 n) lo hi inv h ∙ sought
+      pub seek-end : hi ≤ lo → Absent ≡ searchedIn s j k (codeText k a b)
+      seek-end h = halves-end (orderAt s k from (codePadded k a b)) (foundAt k from) Absent (binarySearch (orderAt s k from (codePadded k a b)) (foundAt k from) Absent n 0 n) lo hi inv h ∙ sought
 
-      pub seek-hit : (h : lo < hi) (o : Order) (at w p q : ℕ) → o ≡ codeOrder s (from + (lo + (hi - lo) / 2) * w + 1) p q a b → at ≡ from + (lo + (hi - lo) / 2) * w → w ≡ bodyWidth k + 1 → p ≡ firstWidth k → q ≡ secondWidth k → o ≡ Same → At (record { at = at }) ≡ halvedIn s j k (codeText k a b)
+      pub seek-hit : (h : lo < hi) (o : Order) (at w p q : ℕ) → o ≡ codeOrder s (from + (lo + (hi - lo) / 2) * w + 1) p q a b → at ≡ from + (lo + (hi - lo) / 2) * w → w ≡ bodyWidth k + 1 → p ≡ firstWidth k → q ≡ secondWidth k → o ≡ Same → At (record { at = at }) ≡ searchedIn s j k (codeText k a b)
       unfolding foundAt placeOf
       seek-hit h o at w p q e v ew ep eq z =
           let r : at ≡ from + (lo + (hi - lo) / 2) * (bodyWidth k + 1) = v ∙ ap (λ (y : ℕ). from + (lo + (hi - lo) / 2) * y) ew in
           ap (λ (y : ℕ). At (record { at = y })) r
-          ∙ turn-hit (orderAt s k from (codePadded k a b)) (foundAt k from) Absent (halve (orderAt s k from (codePadded k a b)) (foundAt k from) Absent n 0 n) lo hi inv h o (probed h o w p q e ew ep eq) z
+          ∙ turn-hit (orderAt s k from (codePadded k a b)) (foundAt k from) Absent (binarySearch (orderAt s k from (codePadded k a b)) (foundAt k from) Absent n 0 n) lo hi inv h o (probed h o w p q e ew ep eq) z
           ∙ sought
 
-pub ruleset for-seek = (needs, count-from, seek-start, seek-up, seek-down, seek-end, seek-hit)
+pub ruleset for-binary-search = (needs, count-from, seek-start, seek-up, seek-down, seek-end, seek-hit)
 
 -- sought
-module _ (s : Text) (q : Sections) (k : ℕ) (a b : Text) (g : Found) (e : g ≡ guessedIn s q k (codeText k a b)) where
+module _ (s : Text) (q : Sections) (k : ℕ) (a b : Text) (g : Found) (e : g ≡ hashedIn s q k (codeText k a b)) where
   pub sought-guess : (p : Position) → g ≡ At p → At p ≡ soughtIn s q k (codeText k a b)
   unfolding soughtIn
   sought-guess p h = rw (← e, h)
 
-  pub sought-halves : g ≡ Absent → (r : Found) → r ≡ halvedIn s q k (codeText k a b) → r ≡ soughtIn s q k (codeText k a b)
+  pub sought-halves : g ≡ Absent → (r : Found) → r ≡ searchedIn s q k (codeText k a b) → r ≡ soughtIn s q k (codeText k a b)
   unfolding soughtIn
   sought-halves h r f = rw (← e, h) f
 

@@ -13,7 +13,7 @@ use lib.Dec.{eqb, ltb, leb}
 use lib.ListN.{length, take, drop, length-take, length-drop, length-append, take-append-drop}
 use lib.Seq.{drop-drop, drop-append-le, take-append-seam, length-take-le}
 use Rattle.house.specs.Text.{Text, any, orderOf}
-use Rattle.house.specs.Search.{halve}
+use Rattle.house.specs.Search.{binarySearch}
 use Rattle.house.specs.declared.Order.{Order}
 use Rattle.house.specs.declared.Order.the-variants.{Less, Same, More}
 use Rattle.house.proofs.Small.{clash, both, Three, lt, eq, gt, three}
@@ -29,7 +29,7 @@ use Rattle.book.specs.declared.Validity.the-variants.{Valid, Malformed}
 use Rattle.book.specs.declared.Standing.{Standing}
 use Rattle.book.specs.declared.Standing.the-variants.{Unknown, OutOfForce, InForce}
 use Rattle.book.specs.Book.{firstWidth, secondWidth, codeWidth, bodyWidth, Entry, entryOf, entries, codeOf, entryForm, bytesBefore, bookOk, bookOf, sectionsOf, validOf, Sound, filled, codeText, isEntry, listed, listedOn, inForce, standingOf}
-use Rattle.book.specs.LookUp.{sectionStart, countIn, placeOf, orderAt, foundAt, fits, guess, foundIf, guessedIn, halvedIn, elseFound, soughtIn, foundIn, inForceAt, standingAt, standingIn, noteKinds, guided}
+use Rattle.book.specs.LookUp.{sectionStart, countIn, placeOf, orderAt, foundAt, fits, guess, foundIf, hashedIn, searchedIn, elseFound, soughtIn, foundIn, inForceAt, standingAt, standingIn, noteKinds, withHashTable}
 use Rattle.book.specs.Inside.{soundFrom}
 use Rattle.book.proofs.WidthLaws.{code-parts, body-parts, by-kind}
 use Rattle.book.proofs.EntryLaws.{unroll, form-says, code-is, bytes-here, floor-zero, top-false}
@@ -195,24 +195,24 @@ module _ (s book : Text) (q : Sections) (k n : ℕ) (sec : Section s book q k n)
     unfolding foundAt standingOf
     hits d = rw (force d, hits-known, hits-on d)
 
-  finds : (d : ℕ) → standingAt s d (halve (orderAt s k from x) (foundAt k from) Absent (countIn s q k) 0 (countIn s q k)) ≡ standingOf (entries book) k x d
+  finds : (d : ℕ) → standingAt s d (binarySearch (orderAt s k from x) (foundAt k from) Absent (countIn s q k) 0 (countIn s q k)) ≡ standingOf (entries book) k x d
   finds d = rw (sec .count) (go (halve-decides (orderAt s k from x) (foundAt k from) Absent n ascends))
     where
-      go : Decides (orderAt s k from x) (foundAt k from) Absent n (halve (orderAt s k from x) (foundAt k from) Absent n 0 n)
-          → standingAt s d (halve (orderAt s k from x) (foundAt k from) Absent n 0 n) ≡ standingOf (entries book) k x d
+      go : Decides (orderAt s k from x) (foundAt k from) Absent n (binarySearch (orderAt s k from x) (foundAt k from) Absent n 0 n)
+          → standingAt s d (binarySearch (orderAt s k from x) (foundAt k from) Absent n 0 n) ≡ standingOf (entries book) k x d
       go (hit m l o e) = rw e (hits m l o d)
       go (miss f e) = rw e (sym (standing-none (entries book) k x d (misses f)))
 
   -- whatever the guess
   sought : (d : ℕ) → standingAt s d (soughtIn s q k x) ≡ standingOf (entries book) k x d
-  unfolding soughtIn guessedIn foundIf halvedIn foundAt
+  unfolding soughtIn hashedIn foundIf searchedIn foundAt
   sought d = go (ltb i (countIn s q k)) refl (orderAt s k from x i) refl
     where
       i : ℕ
       i = guess s q k x
 
       go : (u : Bool) → ltb i (countIn s q k) ≡ u → (o : Order) → orderAt s k from x i ≡ o
-          → standingAt s d (elseFound (cond u (foundIf o (placeOf k from i)) Absent) (halve (orderAt s k from x) (foundAt k from) Absent (countIn s q k) 0 (countIn s q k))) ≡ standingOf (entries book) k x d
+          → standingAt s d (elseFound (cond u (foundIf o (placeOf k from i)) Absent) (binarySearch (orderAt s k from x) (foundAt k from) Absent (countIn s q k) 0 (countIn s q k))) ≡ standingOf (entries book) k x d
       go true z Less e = finds d
       go true z Same e = hits i (omega (arith, ltb-true i (countIn s q k) z, sec .count)) e d
       go true z More e = finds d
@@ -305,7 +305,7 @@ unlisted d k x (e ∷ es) h = go (unlisted d k x es) (isEntry k x e) h
     go r true z = clash (cc)
     go r false z = r z
 
--- a book ends where its last section ends, and a guided book starts with it
+-- a book ends where its last section ends, and a withHashTable book starts with it
 no-entries : (t : Text) → soundFrom 9 [] (entries t) ≡ true → t ≡ []
 no-entries [] h = refl
 no-entries (b ∷ u) h = clash (cc (top-false [] (entryOf b u) (entries (drop (bodyWidth b) u)), unroll b u))
@@ -320,8 +320,8 @@ end-is s q h =
 pub book-small : (s : Text) (q : Sections) → Sound s q → length s ≤ 262144
 book-small s q h = leb-true (length s) 262144 (both (leb (length s) 262144) (soundFrom 1 [] (entries s)) (sym (book-is s) ∙ h .ok) .0)
 
-pub guided-starts : (s : Text) (q : Sections) (room : Text) → Sound s q → length s ≤ length room → take (q .end) (guided s q room) ≡ s
-unfolding guided
+pub guided-starts : (s : Text) (q : Sections) (room : Text) → Sound s q → length s ≤ length room → take (q .end) (withHashTable s q room) ≡ s
+unfolding withHashTable
 guided-starts s q room h l = rw (le-leb _ _ l) (ap (λ (n : ℕ). take n (s ++ noteKinds s q 8 (drop (length s) room))) (end-is s q h) ∙ take-append-seam s (noteKinds s q 8 (drop (length s) room)))
 
 module _ (s : Text) (q : Sections) (h : Sound (take (q .end) s) q) (k : ℕ) (a b : Text) where

@@ -8,7 +8,7 @@ use mathlib.Core.List.{[], _∷_, _++_}
 use lib.ListN.{length, take, drop, getD, set}
 use lib.Dec.{eqb, ltb, leb}
 use Rattle.house.specs.Text.{Text, orderOf}
-use Rattle.house.specs.Search.{byOrder, halve}
+use Rattle.house.specs.Search.{byOrder, binarySearch}
 use Rattle.house.specs.declared.Order.{Order}
 use Rattle.book.specs.declared.Sections.{Sections}
 use Rattle.book.specs.declared.Found.{Found}
@@ -67,14 +67,14 @@ unfoldable pub foundIf : Order → ℕ → Found
 foundIf o at = byOrder o Absent (At (record { at = at })) Absent
 
 -- where the entry that the guess names is, if there is one and it has the code
-unfoldable pub guessedIn : Text → Sections → ℕ → Text → Found
-guessedIn s q k code =
+unfoldable pub hashedIn : Text → Sections → ℕ → Text → Found
+hashedIn s q k code =
     let i = guess s q k code in
     cond (ltb i (countIn s q k)) (foundIf (orderAt s k (sectionStart q k) code i) (placeOf k (sectionStart q k) i)) Absent
 
 -- where an entry with the code is, by halving
-unfoldable pub halvedIn : Text → Sections → ℕ → Text → Found
-halvedIn s q k code = halve (orderAt s k (sectionStart q k) code) (foundAt k (sectionStart q k)) Absent (countIn s q k) 0 (countIn s q k)
+unfoldable pub searchedIn : Text → Sections → ℕ → Text → Found
+searchedIn s q k code = binarySearch (orderAt s k (sectionStart q k) code) (foundAt k (sectionStart q k)) Absent (countIn s q k) 0 (countIn s q k)
 
 -- the first place, or the second where there is none
 abbrev pub elseFound : Found → Found → Found
@@ -83,7 +83,7 @@ elseFound Absent f = f
 
 -- where an entry with the code is, by guess and then by halving
 unfoldable pub soughtIn : Text → Sections → ℕ → Text → Found
-soughtIn s q k code = elseFound (guessedIn s q k code) (halvedIn s q k code)
+soughtIn s q k code = elseFound (hashedIn s q k code) (searchedIn s q k code)
 
 -- where the entry is that has this kind and code, of one text or of two
 unfoldable pub foundIn : Text → Sections → ℕ → Text → Text → Found
@@ -121,5 +121,5 @@ noteKinds s q zero t = t
 noteKinds s q (suc k) t = noteRows s (suc k) (sectionStart q (suc k)) (countIn s q (suc k)) (noteKinds s q k t)
 
 -- a book at the front of a room, and its entries noted behind it; the room as it is where it is too small for the book
-unfoldable pub guided : Text → Sections → Text → Text
-guided s q room = cond (leb (length s) (length room)) (s ++ noteKinds s q 8 (drop (length s) room)) room
+unfoldable pub withHashTable : Text → Sections → Text → Text
+withHashTable s q room = cond (leb (length s) (length room)) (s ++ noteKinds s q 8 (drop (length s) room)) room

@@ -1,7 +1,7 @@
 // The code book: a reader of its entries, whether it is well formed, and what it says of a code on a day.
 mod days;
 mod forms;
-mod guess;
+mod hash_table;
 mod reader;
 mod search;
 mod well_formed;
@@ -9,7 +9,7 @@ mod widths;
 
 pub use days::in_force;
 pub use days::look_up;
-pub use guess::guide;
+pub use hash_table::hash_book;
 pub use search::find;
 pub use well_formed::valid;
 

@@ -2,7 +2,7 @@
 use crate::Found;
 use crate::Position;
 use crate::Sections;
-use crate::guess::guess;
+use crate::hash_table::hashed;
 use crate::widths::body_width;
 use crate::widths::first_width;
 use crate::widths::second_width;
@@ -12,7 +12,7 @@ ghost use mathlib.Core.Bool.{true};
 ghost use Prim.Native.Nat.{_<_, _≤_, _+_, _-_, _*_};
 ghost use lib.ListN.{length};
 ghost use Rattle.book.specs.Book.{firstWidth, secondWidth, bodyWidth, codeText};
-ghost use Rattle.book.specs.LookUp.{sectionStart, countIn, fits, foundIf, guessedIn, halvedIn, soughtIn, foundIn};
+ghost use Rattle.book.specs.LookUp.{sectionStart, countIn, fits, foundIf, hashedIn, searchedIn, soughtIn, foundIn};
 ghost use Rattle.book.specs.Inside.{codeOrder};
 
 impl Sections {
@@ -138,15 +138,15 @@ fn found_if(p: Probed) -> Found
 }
 
 // The entry that the guess for a code names, if it has that code.
-fn guessed(book: &[u8], sections: Sections, kind: u8, a: &[u8], b: &[u8]) -> Found
+fn at_hash(book: &[u8], sections: Sections, kind: u8, a: &[u8], b: &[u8]) -> Found
     requires { ⌜ kind ≤ 8 ⌝ }
     requires { ⌜ fits kind (now a) (now b) ≡ true ⌝ }
-    ensures { λ r. ⌜ r ≡ guessedIn (now (book .entry)) sections kind (codeText kind (now (a .entry)) (now (b .entry))) ⌝ }
+    ensures { λ r. ⌜ r ≡ hashedIn (now (book .entry)) sections kind (codeText kind (now (a .entry)) (now (b .entry))) ⌝ }
 {
     let from = sections.start(kind);
     let w = widths_of(kind);
     let n = section_count(book, sections, kind, w.entry);
-    let i = guess(book, sections, kind, a, b);
+    let i = hashed(book, sections, kind, a, b);
     if i < n {
         found_if(probe(book, from, n, i, w, a, b))
     } else {
@@ -155,10 +155,10 @@ fn guessed(book: &[u8], sections: Sections, kind: u8, a: &[u8], b: &[u8]) -> Fou
 }
 
 // The search by halves: entries lo to hi are left of those of the section.
-fn seek(book: &[u8], sections: Sections, kind: u8, a: &[u8], b: &[u8]) -> Found
+fn binary_search(book: &[u8], sections: Sections, kind: u8, a: &[u8], b: &[u8]) -> Found
     requires { ⌜ kind ≤ 8 ⌝ }
     requires { ⌜ fits kind (now a) (now b) ≡ true ⌝ }
-    ensures { λ r. ⌜ r ≡ halvedIn (now (book .entry)) sections kind (codeText kind (now (a .entry)) (now (b .entry))) ⌝ }
+    ensures { λ r. ⌜ r ≡ searchedIn (now (book .entry)) sections kind (codeText kind (now (a .entry)) (now (b .entry))) ⌝ }
 {
     let from = sections.start(kind);
     let w = widths_of(kind);
@@ -191,10 +191,10 @@ fn sought(book: &[u8], sections: Sections, kind: u8, a: &[u8], b: &[u8]) -> Foun
     requires { ⌜ fits kind (now a) (now b) ≡ true ⌝ }
     ensures { λ r. ⌜ r ≡ soughtIn (now (book .entry)) sections kind (codeText kind (now (a .entry)) (now (b .entry))) ⌝ }
 {
-    let g = guessed(book, sections, kind, a, b);
+    let g = at_hash(book, sections, kind, a, b);
     match g {
         Found::At(place) => Found::At(place),
-        Found::Absent => seek(book, sections, kind, a, b),
+        Found::Absent => binary_search(book, sections, kind, a, b),
     }
 }
 

@@ -5,7 +5,7 @@ use mathlib.Core.Bool.{true}
 use mathlib.Core.List.{List, [], _∷_}
 use lib.ListN.{length}
 use lib.Dec.{leb}
-use Rattle.house.specs.Text.{count}
+use Rattle.house.specs.Text.{howMany}
 use Rattle.lines.specs.Records.{IN, isKind}
 use Rattle.lines.specs.declared.Shape.the-variants.{Right}
 use Rattle.ledger.specs.Ledger.{Event}
@@ -20,20 +20,20 @@ use Rattle.lines.specs.Lines.{lfNext, endingOf, grow, byEnding, linesOf, lineOf
 use Rattle.lines.specs.Records.{letterKind, kindOf, recordOf, countOf, recOf, recs}
 use Rattle.lines.specs.Shape.{isOne, follows, cause1, printable, cause2, pipeLast, cause3, cause4, cause5, cause6, causeOf, cause7, shapeFrom, shapeOf}
 use Rattle.book.specs.Book.{firstWidth, secondWidth, codeWidth, startWidth, bodyWidth, entriesAfter, entries, codeOf, datesOf, startOf, endOf, firstForm, secondForm, codeForm, startForm, datesForm, bodyForm, entryForm, above, bookOk, bookOf, startedBy, inForce, codeText, isEntry, listed, listedOn}
-use Rattle.ledger.specs.Ledger.{slotsIn, chop, slots, eventForm, isLiveSlot, isFreeSlot, slotForm, slotFollows, ledgerOk, liveIn, isAmong, insert, plus, less, eventsAfter, ledgerWith}
+use Rattle.ledger.specs.Ledger.{slotsIn, chop, slots, eventForm, isLiveSlot, isFreeSlot, slotForm, slotFollows, ledgerOk, liveIn, isAmong, putInOrder, plus, less, eventsAfter, ledgerWith}
 use Rattle.rules.specs.Blocks.{isInBlock, eventOf, sameEvent, joins, blockIn, begins, beforeBlock, isRepeated, beginsBlock, eventsOf}
 use Rattle.rules.specs.Codes.{isSite, isMethod, bookKind, isCodeField, reasonRead, codeRead, codeIn, isKnown, dayField, dayIsSound, recordDay, isInForce, pairKind, pairIn}
 use Rattle.rules.specs.FileE.{bookE, fileE}
 use Rattle.rules.specs.Findings.{found, fieldsFindings, lineFindings, findingsOf, findingBytes, areaAfter}
 use Rattle.rules.specs.Forms.{fieldIn, anything, isPrefix, isBatch, isTotal, countForm, isNumber, isUli, isType, isHistorical, isCode, isSiteText, isMethodText, isReason, isFraction, isDosage, isDosageType, isManufacturer, lotByte, isLot, isCount, isReasonNot, isOrganization, isGrade, table, formOf, isJudged, relaxedBy, isOptional, isMissing, isMisformed, isSound, isGiven}
-use Rattle.rules.specs.Places.{placesOf, placesIn, noRec, headKind, headOf, isNumbered}
+use Rattle.rules.specs.Contexts.{contextsOf, contextsIn, noRec, headKind, headOf, isNumbered}
 use Rattle.rules.specs.Rules.{rule1, rule2, rule3, rule4, rule5, rule6, rule7, afterToday, beforeBirth, rule8, without, siteWrong, methodWrong, rule9, lacks, rule10, rule11, sameAntigen, rule12, doseOf, sameCount, allIn, countsSound, setsDiffer, rule13, sameLot, rule14, rule15, asks, rule16, rule17, rule18, rules, rulesIn, rulesOf, brokenAt}
 use Rattle.rules.specs.Seen.{seenAt}
 use Rattle.answers.specs.Answers.{settingOf, findings, added, changed, deleted, notImmunized, isFull, ledgerAfter, accepted, withFindings, roomed, judged, check, numbersOf, isAccepted, isFindings}
 use Rattle.demands.specs.Examples.{fileD, p1, p2, p3, p3-01, p4, p5, p6, p7, p8, p9, p10, p11, p12, cases}
 
 pub cases-hold : CasesHold
-unfolding isLeap daysIn isDay isDate isEnd keyOf orderOf below same isDigit isLetter isLetterOrDigit isGraphic run digits number pad graphicLen isPadded lfNext endingOf grow byEnding linesOf lineOf textLen lineLen lengthen fieldsOf fieldOf letterKind kindOf recordOf countOf recOf recs isOne follows cause1 printable cause2 pipeLast cause3 cause4 cause5 cause6 causeOf cause7 shapeFrom shapeOf firstWidth secondWidth codeWidth startWidth bodyWidth entriesAfter entries codeOf datesOf startOf endOf firstForm secondForm codeForm startForm datesForm bodyForm entryForm above bookOk bookOf startedBy inForce codeText isEntry listed listedOn slotsIn chop slots eventForm isLiveSlot isFreeSlot slotForm slotFollows ledgerOk liveIn isAmong insert plus less eventsAfter ledgerWith isInBlock eventOf sameEvent joins blockIn begins beforeBlock isRepeated beginsBlock eventsOf isSite isMethod bookKind isCodeField reasonRead codeRead codeIn isKnown dayField dayIsSound recordDay isInForce pairKind pairIn bookE fileE found fieldsFindings lineFindings findingsOf findingBytes areaAfter fieldIn anything isPrefix isBatch isTotal countForm isNumber isUli isType isHistorical isCode isSiteText isMethodText isReason isFraction isDosage isDosageType isManufacturer lotByte isLot isCount isReasonNot isOrganization isGrade table formOf isJudged relaxedBy isOptional isMissing isMisformed isSound isGiven placesOf placesIn noRec headKind headOf isNumbered rule1 rule2 rule3 rule4 rule5 rule6 rule7 afterToday beforeBirth rule8 without siteWrong methodWrong rule9 lacks rule10 rule11 sameAntigen rule12 doseOf sameCount allIn countsSound setsDiffer rule13 sameLot rule14 rule15 asks rule16 rule17 rule18 rules rulesIn rulesOf brokenAt seenAt settingOf findings added changed deleted notImmunized isFull ledgerAfter accepted withFindings roomed judged check numbersOf isAccepted isFindings fileD p1 p2 p3 p3-01 p4 p5 p6 p7 p8 p9 p10 p11 p12 cases
+unfolding isLeap daysIn isDay isDate isEnd keyOf orderOf below same isDigit isLetter isLetterOrDigit isGraphic run digits number pad graphicLen isPadded lfNext endingOf grow byEnding linesOf lineOf textLen lineLen lengthen fieldsOf fieldOf letterKind kindOf recordOf countOf recOf recs isOne follows cause1 printable cause2 pipeLast cause3 cause4 cause5 cause6 causeOf cause7 shapeFrom shapeOf firstWidth secondWidth codeWidth startWidth bodyWidth entriesAfter entries codeOf datesOf startOf endOf firstForm secondForm codeForm startForm datesForm bodyForm entryForm above bookOk bookOf startedBy inForce codeText isEntry listed listedOn slotsIn chop slots eventForm isLiveSlot isFreeSlot slotForm slotFollows ledgerOk liveIn isAmong putInOrder plus less eventsAfter ledgerWith isInBlock eventOf sameEvent joins blockIn begins beforeBlock isRepeated beginsBlock eventsOf isSite isMethod bookKind isCodeField reasonRead codeRead codeIn isKnown dayField dayIsSound recordDay isInForce pairKind pairIn bookE fileE found fieldsFindings lineFindings findingsOf findingBytes areaAfter fieldIn anything isPrefix isBatch isTotal countForm isNumber isUli isType isHistorical isCode isSiteText isMethodText isReason isFraction isDosage isDosageType isManufacturer lotByte isLot isCount isReasonNot isOrganization isGrade table formOf isJudged relaxedBy isOptional isMissing isMisformed isSound isGiven contextsOf contextsIn noRec headKind headOf isNumbered rule1 rule2 rule3 rule4 rule5 rule6 rule7 afterToday beforeBirth rule8 without siteWrong methodWrong rule9 lacks rule10 rule11 sameAntigen rule12 doseOf sameCount allIn countsSound setsDiffer rule13 sameLot rule14 rule15 asks rule16 rule17 rule18 rules rulesIn rulesOf brokenAt seenAt settingOf findings added changed deleted notImmunized isFull ledgerAfter accepted withFindings roomed judged check numbersOf isAccepted isFindings fileD p1 p2 p3 p3-01 p4 p5 p6 p7 p8 p9 p10 p11 p12 cases
 cases-hold = refl
 
 -- what a file with book E is judged by, over these live events
@@ -46,20 +46,20 @@ pub record Computed : Type 0 where
   pub empty-refused : on [] (zeros 38) .answer ≡ Shape 1 7
   pub e-ledger : ledgerOk (zeros 38) ≡ true
   pub e-free : liveIn (zeros 38) ≡ []
-  pub e-adds : eventsOf adds (placesIn fileE) ≡ eventOn "20220901" ∷ []
-  pub e-deletes : eventsOf deletes (placesIn fileE) ≡ []
+  pub e-adds : eventsOf adds (contextsIn fileE) ≡ eventOn "20220901" ∷ []
+  pub e-deletes : eventsOf deletes (contextsIn fileE) ≡ []
   pub day : isDay 20220930 ≡ true
   pub d-short : leb (length fileD) 5000000 ≡ true
   pub book : bookOk bookE ≡ true
   pub d-shape : shapeOf fileD ≡ Right
   pub d-findings : findingsOf (settingE (eventOn "20220901" ∷ [])) fileD ≡ []
-  pub d-adds : eventsOf adds (placesIn fileD) ≡ []
-  pub d-changes : eventsOf changes (placesIn fileD) ≡ []
-  pub d-deletes : eventsOf deletes (placesIn fileD) ≡ eventOn "20220901" ∷ []
-  pub d-not-immunized : count (isKind IN) (recs fileD) ≡ 0
+  pub d-adds : eventsOf adds (contextsIn fileD) ≡ []
+  pub d-changes : eventsOf changes (contextsIn fileD) ≡ []
+  pub d-deletes : eventsOf deletes (contextsIn fileD) ≡ eventOn "20220901" ∷ []
+  pub d-not-immunized : howMany (isKind IN) (recs fileD) ≡ 0
 
 pub computed : Computed
-unfolding isLeap daysIn isDay isDate isEnd keyOf orderOf below same isDigit isLetter isLetterOrDigit isGraphic run digits number pad graphicLen isPadded lfNext endingOf grow byEnding linesOf lineOf textLen lineLen lengthen fieldsOf fieldOf letterKind kindOf recordOf countOf recOf recs isOne follows cause1 printable cause2 pipeLast cause3 cause4 cause5 cause6 causeOf cause7 shapeFrom shapeOf firstWidth secondWidth codeWidth startWidth bodyWidth entriesAfter entries codeOf datesOf startOf endOf firstForm secondForm codeForm startForm datesForm bodyForm entryForm above bookOk bookOf startedBy inForce codeText isEntry listed listedOn slotsIn chop slots eventForm isLiveSlot isFreeSlot slotForm slotFollows ledgerOk liveIn isAmong insert plus less eventsAfter ledgerWith isInBlock eventOf sameEvent joins blockIn begins beforeBlock isRepeated beginsBlock eventsOf isSite isMethod bookKind isCodeField reasonRead codeRead codeIn isKnown dayField dayIsSound recordDay isInForce pairKind pairIn bookE fileE found fieldsFindings lineFindings findingsOf findingBytes areaAfter fieldIn anything isPrefix isBatch isTotal countForm isNumber isUli isType isHistorical isCode isSiteText isMethodText isReason isFraction isDosage isDosageType isManufacturer lotByte isLot isCount isReasonNot isOrganization isGrade table formOf isJudged relaxedBy isOptional isMissing isMisformed isSound isGiven placesOf placesIn noRec headKind headOf isNumbered rule1 rule2 rule3 rule4 rule5 rule6 rule7 afterToday beforeBirth rule8 without siteWrong methodWrong rule9 lacks rule10 rule11 sameAntigen rule12 doseOf sameCount allIn countsSound setsDiffer rule13 sameLot rule14 rule15 asks rule16 rule17 rule18 rules rulesIn rulesOf brokenAt seenAt settingOf findings added changed deleted notImmunized isFull ledgerAfter accepted withFindings roomed judged check numbersOf isAccepted isFindings fileD p1 p2 p3 p3-01 p4 p5 p6 p7 p8 p9 p10 p11 p12 cases
+unfolding isLeap daysIn isDay isDate isEnd keyOf orderOf below same isDigit isLetter isLetterOrDigit isGraphic run digits number pad graphicLen isPadded lfNext endingOf grow byEnding linesOf lineOf textLen lineLen lengthen fieldsOf fieldOf letterKind kindOf recordOf countOf recOf recs isOne follows cause1 printable cause2 pipeLast cause3 cause4 cause5 cause6 causeOf cause7 shapeFrom shapeOf firstWidth secondWidth codeWidth startWidth bodyWidth entriesAfter entries codeOf datesOf startOf endOf firstForm secondForm codeForm startForm datesForm bodyForm entryForm above bookOk bookOf startedBy inForce codeText isEntry listed listedOn slotsIn chop slots eventForm isLiveSlot isFreeSlot slotForm slotFollows ledgerOk liveIn isAmong putInOrder plus less eventsAfter ledgerWith isInBlock eventOf sameEvent joins blockIn begins beforeBlock isRepeated beginsBlock eventsOf isSite isMethod bookKind isCodeField reasonRead codeRead codeIn isKnown dayField dayIsSound recordDay isInForce pairKind pairIn bookE fileE found fieldsFindings lineFindings findingsOf findingBytes areaAfter fieldIn anything isPrefix isBatch isTotal countForm isNumber isUli isType isHistorical isCode isSiteText isMethodText isReason isFraction isDosage isDosageType isManufacturer lotByte isLot isCount isReasonNot isOrganization isGrade table formOf isJudged relaxedBy isOptional isMissing isMisformed isSound isGiven contextsOf contextsIn noRec headKind headOf isNumbered rule1 rule2 rule3 rule4 rule5 rule6 rule7 afterToday beforeBirth rule8 without siteWrong methodWrong rule9 lacks rule10 rule11 sameAntigen rule12 doseOf sameCount allIn countsSound setsDiffer rule13 sameLot rule14 rule15 asks rule16 rule17 rule18 rules rulesIn rulesOf brokenAt seenAt settingOf findings added changed deleted notImmunized isFull ledgerAfter accepted withFindings roomed judged check numbersOf isAccepted isFindings fileD p1 p2 p3 p3-01 p4 p5 p6 p7 p8 p9 p10 p11 p12 cases
 computed =
     record {
       e-accepted = refl;

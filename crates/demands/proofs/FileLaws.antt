@@ -8,7 +8,7 @@ use mathlib.Core.Logic.{_⊎_, _↔_, inr, ⊎-elim}
 use mathlib.Core.List.{List, []}
 use lib.ListN.{length, getD}
 use lib.Dec.{T, ltb}
-use Rattle.house.specs.Text.{Text, count, isEmpty}
+use Rattle.house.specs.Text.{Text, howMany, isEmpty}
 use Rattle.house.specs.Members.{In, Distinct}
 use Rattle.house.proofs.Facts.{of-true, is-true}
 use Rattle.house.proofs.Small.{clash}
@@ -20,7 +20,7 @@ use Rattle.book.specs.Book.{bookOk}
 use Rattle.ledger.specs.Ledger.{Event, slotsIn, eventForm, ledgerOk, liveIn, eventsAfter}
 use Rattle.ledger.proofs.EventLaws.{among-in, in-among, in-after, after-in, count-after, count-every, every, up-after, Up, up-distinct, after-none}
 use Rattle.ledger.proofs.HeldLaws.{AllLong, well-formed, with-length, live-with, with-ok, live-long, live-formed, live-up}
-use Rattle.rules.specs.Places.{placesIn}
+use Rattle.rules.specs.Contexts.{contextsIn}
 use Rattle.rules.specs.Findings.{areaAfter}
 use Rattle.rules.specs.Claims.{Clean, AreaHolds}
 use Rattle.rules.proofs.AreaLaws.{area-kept}
@@ -100,7 +100,7 @@ module _ (x : Lent) (a : Accepts x) where
   lent-ok : T (ledgerOk (x .ledger))
   lent-ok = of-true (ledgerOk (x .ledger)) (a .shapely .lends .ledger)
 
-  clean : Clean (settingOf x) (placesIn (x .file))
+  clean : Clean (settingOf x) (contextsIn (x .file))
   unfolding findings
   clean = clean-file (settingOf x) (x .file) (unbroken-none x (a .unbroken))
 
@@ -137,7 +137,7 @@ module _ (x : Lent) (a : Accepts x) where
   up = live-up (x .ledger) lent-ok
 
   -- how many of a sort
-  counts : (p : Event → Bool) → count p after + count p (deleted x) ≡ count p (liveIn (x .ledger)) + count p (added x)
+  counts : (p : Event → Bool) → howMany p after + howMany p (deleted x) ≡ howMany p (liveIn (x .ledger)) + howMany p (added x)
   unfolding after live
   counts p = count-after p live (added x) (deleted x) (up-distinct live up) deletes-once was-live
 
@@ -177,8 +177,8 @@ module _ (x : Lent) (a : Accepts x) where
       let w = well-formed (x .ledger) lent-ok in
       with-ok (length (x .ledger)) after (w .whole) (w .most) fits long all-formed (up-after live (added x) (deleted x) up adds-once new)
 
-  pub after-counts : (p : Event → Bool) → count p (liveIn (ledgerAfter x)) + count p (deleted x) ≡ count p (liveIn (x .ledger)) + count p (added x)
-  after-counts p = ap (λ (es : List Event). count p es + count p (deleted x)) after-live ∙ counts p
+  pub after-counts : (p : Event → Bool) → howMany p (liveIn (ledgerAfter x)) + howMany p (deleted x) ≡ howMany p (liveIn (x .ledger)) + howMany p (added x)
+  after-counts p = ap (λ (es : List Event). howMany p es + howMany p (deleted x)) after-live ∙ counts p
 
   pub after-members : (e : Event) → In e (liveIn (ledgerAfter x)) ↔ (In e (added x) ⊎ (In e (liveIn (x .ledger)) × (In e (deleted x) → ⊥)))
   unfolding after

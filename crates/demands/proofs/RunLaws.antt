@@ -7,7 +7,7 @@ use mathlib.Core.Bool.{Bool, true, false, not, cond, _&&_, _||_}
 use mathlib.Core.Logic.{_⊎_, _↔_, inl, inr, ⊎-elim}
 use mathlib.Core.List.{List, [], _∷_}
 use lib.Dec.{T, T-not, not-T}
-use Rattle.house.specs.Text.{Text, count}
+use Rattle.house.specs.Text.{Text, howMany}
 use Rattle.house.specs.Members.{In}
 use Rattle.house.proofs.Facts.{both, both-of, either, left-of, right-of, of-true, is-true, bool-ext}
 use Rattle.house.proofs.Members.{count-append}
@@ -22,7 +22,7 @@ use Rattle.demands.proofs.FileLaws.{accepts, accepted-ledger, refused-l
 
 -- what a call does to the live events, with those that it adds and deletes
 record Moves (live after plus minus : List Event) : Type 0 where
-  counts : (p : Event → Bool) → count p after + count p minus ≡ count p live + count p plus
+  counts : (p : Event → Bool) → howMany p after + howMany p minus ≡ howMany p live + howMany p plus
   members : (e : Event) → In e after ↔ (In e plus ⊎ (In e live × (In e minus → ⊥)))
 
 still : (live : List Event) → Moves live live [] []
@@ -100,7 +100,7 @@ module _ (ledger : Text) (s : Step) (from : s .lent .ledger ≡ ledger) (e : s .
 module _ (promise : Promise) (same : (x : Lent) (o : Outcome) → promise x o → o ≡ check x) where
   module _ (p : Event → Bool) where
     run-counts : (ledger : Text) (ss : List Step) → Run promise ledger ss
-        → count p (liveIn (ledgerAfterRun ledger ss)) + count p (allDeleted ss) ≡ count p (liveIn ledger) + count p (allAdded ss)
+        → howMany p (liveIn (ledgerAfterRun ledger ss)) + howMany p (allDeleted ss) ≡ howMany p (liveIn ledger) + howMany p (allAdded ss)
     run-counts ledger [] r = refl
     run-counts ledger (s ∷ ss) r =
         omega (
@@ -135,9 +135,9 @@ module _ (promise : Promise) (same : (x : Lent) (o : Outcome) → promise x o �
               count-every (liveIn after),
               count-every (allDeleted ss),
               count-every (allAdded ss),
-              ap (count every) none,
+              ap (howMany every) none,
             );
-        each-patient = λ uli ok none. omega (arith, run-counts (isOf uli) ledger ss r, ap (count (isOf uli)) none);
+        each-patient = λ uli ok none. omega (arith, run-counts (isOf uli) ledger ss r, ap (howMany (isOf uli)) none);
         live-last =
             λ v ok none.
             let q : isAmong (liveIn after) v ≡ lastAdded v false ss =

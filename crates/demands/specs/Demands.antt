@@ -8,7 +8,7 @@ use mathlib.Core.Logic.{_⊎_, _↔_}
 use mathlib.Core.List.{List, [], _∷_}
 use lib.ListN.{length, getD}
 use lib.Dec.{T}
-use Rattle.house.specs.Text.{Text, count}
+use Rattle.house.specs.Text.{Text, howMany}
 use Rattle.house.specs.Members.{In, Distinct}
 use Rattle.dates.specs.Dates.{isDay}
 use Rattle.lines.specs.Shape.{shapeOf}
@@ -92,7 +92,7 @@ pub record LedgerAfter (x : Lent) (o : Outcome) : Type 0 where
   pub same-length : length (o .ledger) ≡ length (x .ledger)
   pub in-form : isAccepted (o .answer) ≡ true → ledgerOk (o .ledger) ≡ true
   pub holds : isAccepted (o .answer) ≡ true → (e : Event) → In e (liveIn (o .ledger)) ↔ (In e (added x) ⊎ (In e (liveIn (x .ledger)) × (In e (deleted x) → ⊥)))
-  -- "Lots in one block count once": no event is added or deleted twice by one file, nor both
+  -- "Lots in one block howMany once": no event is added or deleted twice by one file, nor both
   pub adds-once : isAccepted (o .answer) ≡ true → Distinct (added x)
   pub deletes-once : isAccepted (o .answer) ≡ true → Distinct (deleted x)
   pub not-both : isAccepted (o .answer) ≡ true → (e : Event) → In e (added x) → In e (deleted x) → ⊥
@@ -107,7 +107,7 @@ pub record Demand3 (ledger : Text) (ss : List Step) : Type 0 where
   pub in-form : ledgerOk ledger ≡ true → ledgerOk (ledgerAfterRun ledger ss) ≡ true
   pub overall : ledgerOk ledger ≡ true → liveIn ledger ≡ [] → length (liveIn (ledgerAfterRun ledger ss)) + length (allDeleted ss) ≡ length (allAdded ss)
   pub each-patient : (uli : Text) → ledgerOk ledger ≡ true → liveIn ledger ≡ []
-      → count (isOf uli) (liveIn (ledgerAfterRun ledger ss)) + count (isOf uli) (allDeleted ss) ≡ count (isOf uli) (allAdded ss)
+      → howMany (isOf uli) (liveIn (ledgerAfterRun ledger ss)) + howMany (isOf uli) (allDeleted ss) ≡ howMany (isOf uli) (allAdded ss)
   pub live-last : (e : Event) → ledgerOk ledger ≡ true → liveIn ledger ≡ [] → In e (liveIn (ledgerAfterRun ledger ss)) ↔ T (lastAdded e false ss)
 
 -- every run of calls that keep the promise is such

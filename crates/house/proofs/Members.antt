@@ -7,7 +7,7 @@ use mathlib.Core.List.{List, [], _∷_, _++_, map}
 use lib.Dec.{T}
 use Prim.Native.Nat.{suc, _+_}
 use native.Mathlib.Omega.{arith}
-use Rattle.house.specs.Text.{any, all, those, count, joined}
+use Rattle.house.specs.Text.{any, all, those, howMany, joined}
 use Rattle.house.specs.Members.{In, Distinct, Rising}
 use Rattle.house.proofs.Facts.{both, left-of, right-of, of-true}
 
@@ -171,11 +171,11 @@ module _ {A : Type 0} (r : A → A → Type 0) where
         go rest (inr m) (inl e) = tails rest (sym e)
         go rest (inr m) (inr k) = absurd (never x y (a .0 y k) (b .0 x m))
 
-pub count-append : {A : Type 0} (p : A → Bool) (xs ys : List A) → count p (xs ++ ys) ≡ count p xs + count p ys
+pub count-append : {A : Type 0} (p : A → Bool) (xs ys : List A) → howMany p (xs ++ ys) ≡ howMany p xs + howMany p ys
 count-append p [] ys = omega arith
 count-append p (x ∷ xs) ys = go (p x) (count-append p xs ys)
   where
-    go : (b : Bool) → count p (xs ++ ys) ≡ count p xs + count p ys → cond b (suc (count p (xs ++ ys))) (count p (xs ++ ys)) ≡ cond b (suc (count p xs)) (count p xs) + count p ys
+    go : (b : Bool) → howMany p (xs ++ ys) ≡ howMany p xs + howMany p ys → cond b (suc (howMany p (xs ++ ys))) (howMany p (xs ++ ys)) ≡ cond b (suc (howMany p xs)) (howMany p xs) + howMany p ys
     go true e = omega arith
     go false e = e
 

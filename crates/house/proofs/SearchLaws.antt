@@ -1,4 +1,4 @@
--- Halving as a loop: what is left to halve, and one turn; and what it finds where the rows ascend.
+-- Halving as a loop: what is left to binarySearch, and one turn; and what it finds where the rows ascend.
 -- Assumes nothing.
 use Prim.Native.Nat.{ℕ, zero, suc, _+_, _-_, _/_, _≤_, _<_}
 use native.Mathlib.Omega.{arith}
@@ -7,15 +7,15 @@ use mathlib.Core.Logic.{_⊎_, inl, inr}
 use borrow.Author.Tests.{lt-ltb, le-ltb}
 use Rattle.house.specs.declared.Order.{Order}
 use Rattle.house.specs.declared.Order.the-variants.{Less, Same, More}
-use Rattle.house.specs.Search.{byOrder, halve}
+use Rattle.house.specs.Search.{byOrder, binarySearch}
 use Rattle.house.proofs.Small.{clash, Three, lt, eq, gt, three}
 
 by : {B : Type 0} (o p : Order) (l s m : B) → o ≡ p → byOrder o l s m ≡ byOrder p l s m
 by o p l s m e = ap (λ (y : Order). byOrder y l s m) e
 
 module _ {B : Type 0} (row : ℕ → Order) (place : ℕ → B) (none : B) where
-  stop : (f lo hi : ℕ) → hi ≤ lo → halve row place none f lo hi ≡ none
-  unfolding halve
+  stop : (f lo hi : ℕ) → hi ≤ lo → binarySearch row place none f lo hi ≡ none
+  unfolding binarySearch
   stop zero lo hi h = refl
   stop (suc f) lo hi h = rw (le-ltb lo hi h)
 
@@ -23,24 +23,24 @@ module _ {B : Type 0} (row : ℕ → Order) (place : ℕ → B) (none : B) where
   pub record Halves (x : B) (lo hi : ℕ) : Type 0 where
     pub fuel : ℕ
     pub enough : hi - lo ≤ fuel
-    pub whole : x ≡ halve row place none fuel lo hi
+    pub whole : x ≡ binarySearch row place none fuel lo hi
 
-  pub halves-start : (n : ℕ) → Halves (halve row place none n 0 n) 0 n
+  pub halves-start : (n : ℕ) → Halves (binarySearch row place none n 0 n) 0 n
   halves-start n = record { fuel = n; enough = omega arith; whole = refl }
 
   module _ (x : B) (lo hi : ℕ) (inv : Halves x lo hi) where
     pub halves-end : hi ≤ lo → none ≡ x
     halves-end h = sym (inv .whole ∙ stop (inv .fuel) lo hi h)
 
-    halves-step : (f : ℕ) → lo < hi → hi - lo ≤ f → x ≡ halve row place none f lo hi
-        → (g : ℕ) × (f ≡ suc g) × (x ≡ byOrder (row (lo + (hi - lo) / 2)) (halve row place none g (lo + (hi - lo) / 2 + 1) hi) (place (lo + (hi - lo) / 2)) (halve row place none g lo (lo + (hi - lo) / 2)))
-    unfolding halve
+    halves-step : (f : ℕ) → lo < hi → hi - lo ≤ f → x ≡ binarySearch row place none f lo hi
+        → (g : ℕ) × (f ≡ suc g) × (x ≡ byOrder (row (lo + (hi - lo) / 2)) (binarySearch row place none g (lo + (hi - lo) / 2 + 1) hi) (place (lo + (hi - lo) / 2)) (binarySearch row place none g lo (lo + (hi - lo) / 2)))
+    unfolding binarySearch
     halves-step zero h l e = absurd (omega arith)
     halves-step (suc g) h l e = (g, refl, e ∙ rw (lt-ltb lo hi h))
 
     -- one turn, by the order of the middle row
     module _ (h : lo < hi) (o : Order) (e : row (lo + (hi - lo) / 2) ≡ o) where
-      turn : (g : ℕ) × (inv .fuel ≡ suc g) × (x ≡ byOrder o (halve row place none g (lo + (hi - lo) / 2 + 1) hi) (place (lo + (hi - lo) / 2)) (halve row place none g lo (lo + (hi - lo) / 2)))
+      turn : (g : ℕ) × (inv .fuel ≡ suc g) × (x ≡ byOrder o (binarySearch row place none g (lo + (hi - lo) / 2 + 1) hi) (place (lo + (hi - lo) / 2)) (binarySearch row place none g lo (lo + (hi - lo) / 2)))
       turn =
           let z = halves-step (inv .fuel) h (inv .enough) (inv .whole) in
           (z .0, z .1, z .2 ∙ by (row (lo + (hi - lo) / 2)) o _ _ _ e)
@@ -81,7 +81,7 @@ module _ {B : Type 0} (row : ℕ → Order) (place : ℕ → B) (none : B) where
       low : (i : ℕ) → i < lo → row i ≡ Less
       high : (i : ℕ) → hi ≤ i → i < n → row i ≡ More
 
-    nothing : (f lo hi : ℕ) → Between lo hi → hi ≤ lo → Decides n (halve row place none f lo hi)
+    nothing : (f lo hi : ℕ) → Between lo hi → hi ≤ lo → Decides n (binarySearch row place none f lo hi)
     nothing f lo hi b h = miss (λ i l e. go i l e (three i lo)) (stop f lo hi h)
       where
         go : (i : ℕ) → i < n → row i ≡ Same → Three i lo → ⊥
@@ -105,25 +105,25 @@ module _ {B : Type 0} (row : ℕ → Order) (place : ℕ → B) (none : B) where
         go i h k (eq g) = ap row (sym g) ∙ e
         go i h k (gt g) = absurd (omega arith)
 
-    decides : (f lo hi : ℕ) → Between lo hi → hi - lo ≤ f → Decides n (halve row place none f lo hi)
-    unfolding halve
+    decides : (f lo hi : ℕ) → Between lo hi → hi - lo ≤ f → Decides n (binarySearch row place none f lo hi)
+    unfolding binarySearch
     decides zero lo hi b l = nothing zero lo hi b (omega arith)
     decides (suc f) lo hi b l = go (three lo hi) (decides f)
       where
-        turned : ((lo hi : ℕ) → Between lo hi → hi - lo ≤ f → Decides n (halve row place none f lo hi)) → lo < hi → (o : Order) → row (lo + (hi - lo) / 2) ≡ o
-            → Decides n (byOrder o (halve row place none f (lo + (hi - lo) / 2 + 1) hi) (place (lo + (hi - lo) / 2)) (halve row place none f lo (lo + (hi - lo) / 2)))
+        turned : ((lo hi : ℕ) → Between lo hi → hi - lo ≤ f → Decides n (binarySearch row place none f lo hi)) → lo < hi → (o : Order) → row (lo + (hi - lo) / 2) ≡ o
+            → Decides n (byOrder o (binarySearch row place none f (lo + (hi - lo) / 2 + 1) hi) (place (lo + (hi - lo) / 2)) (binarySearch row place none f lo (lo + (hi - lo) / 2)))
         turned r g Less e = r (lo + (hi - lo) / 2 + 1) hi (more lo hi (lo + (hi - lo) / 2) b (omega arith) e) (omega arith)
         turned r g Same e = hit (lo + (hi - lo) / 2) (omega (arith, b .top)) e refl
         turned r g More e = r lo (lo + (hi - lo) / 2) (less lo hi (lo + (hi - lo) / 2) b (omega arith) e) (omega arith)
 
-        go : Three lo hi → ((lo hi : ℕ) → Between lo hi → hi - lo ≤ f → Decides n (halve row place none f lo hi)) → Decides n (halve row place none (suc f) lo hi)
+        go : Three lo hi → ((lo hi : ℕ) → Between lo hi → hi - lo ≤ f → Decides n (binarySearch row place none f lo hi)) → Decides n (binarySearch row place none (suc f) lo hi)
         go (lt g) r = rw (lt-ltb lo hi g) (turned r g (row (lo + (hi - lo) / 2)) refl)
         go (eq g) r = nothing (suc f) lo hi b (omega arith)
         go (gt g) r = nothing (suc f) lo hi b (omega arith)
 
-    pub climb-decides : Decides n (halve row place none n 0 n)
+    pub climb-decides : Decides n (binarySearch row place none n 0 n)
     climb-decides =
         decides n 0 n (record { top = omega arith; low = λ i l. absurd (omega arith); high = λ i l m. absurd (omega arith) }) (omega arith)
 
-  pub halve-decides : (n : ℕ) → Ascends n → Decides n (halve row place none n 0 n)
+  pub halve-decides : (n : ℕ) → Ascends n → Decides n (binarySearch row place none n 0 n)
   halve-decides n up = climb-decides n (ascending-climbs n up)

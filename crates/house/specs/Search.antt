@@ -13,10 +13,10 @@ module _ {B : Type 0} where
   byOrder More l s m = m
 
   -- rows lo to hi, fuel many at most: row i stands below what is sought, is it, and so gives place i, or stands above it; none where there are no rows
-  unfoldable pub halve : (ℕ → Order) → (ℕ → B) → B → ℕ → ℕ → ℕ → B
-  halve row place none zero lo hi = none
-  halve row place none (suc fuel) lo hi =
+  unfoldable pub binarySearch : (ℕ → Order) → (ℕ → B) → B → ℕ → ℕ → ℕ → B
+  binarySearch row place none zero lo hi = none
+  binarySearch row place none (suc fuel) lo hi =
       cond (ltb lo hi)
-      (byOrder (row (lo + (hi - lo) / 2)) (halve row place none fuel (lo + (hi - lo) / 2 + 1) hi) (place (lo + (hi - lo) / 2))
-      (halve row place none fuel lo (lo + (hi - lo) / 2)))
+      (byOrder (row (lo + (hi - lo) / 2)) (binarySearch row place none fuel (lo + (hi - lo) / 2 + 1) hi) (place (lo + (hi - lo) / 2))
+      (binarySearch row place none fuel lo (lo + (hi - lo) / 2)))
       none

@@ -37,9 +37,9 @@ module _ {A : Type 0} where
   those p (x ∷ xs) = cond (p x) (x ∷ those p xs) (those p xs)
 
   -- how many pass the test
-  abbrev pub count : (A → Bool) → List A → ℕ
-  count p [] = 0
-  count p (x ∷ xs) = cond (p x) (suc (count p xs)) (count p xs)
+  abbrev pub howMany : (A → Bool) → List A → ℕ
+  howMany p [] = 0
+  howMany p (x ∷ xs) = cond (p x) (suc (howMany p xs)) (howMany p xs)
 
   -- the longest run from the start whose elements pass the test
   abbrev pub front : (A → Bool) → List A → List A

@@ -8,12 +8,12 @@ use mathlib.Core.Logic.{_⊎_, inl, inr, ⊎-elim}
 use mathlib.Core.List.{List, [], _∷_}
 use lib.ListN.{length}
 use lib.Dec.{T, T-not, not-T}
-use Rattle.house.specs.Text.{same, below, any, those, count}
+use Rattle.house.specs.Text.{same, below, any, those, howMany}
 use Rattle.house.specs.Members.{In, Distinct, Rising}
 use Rattle.house.proofs.Facts.{either, left-of, right-of, of-true}
 use Rattle.house.proofs.Members.{in-those, those-in, distinct-those, rising-those, rising-distinct}
 use Rattle.house.proofs.Decisions.{same-is, is-same-T, below-asym, below-trans, below-else}
-use Rattle.ledger.specs.Ledger.{Event, isAmong, insert, plus, less, eventsAfter}
+use Rattle.ledger.specs.Ledger.{Event, isAmong, putInOrder, plus, less, eventsAfter}
 
 -- Members
 
@@ -28,22 +28,22 @@ in-among [] e m = absurd m
 in-among (x ∷ es) e (inl q) = left-of (same e x) (any (same e) es) (is-same-T e x q)
 in-among (x ∷ es) e (inr m) = right-of (same e x) (any (same e) es) (in-among es e m)
 
-in-insert : (a e : Event) (es : List Event) → In e (insert a es) → (e ≡ a) ⊎ In e es
-unfolding insert
+in-insert : (a e : Event) (es : List Event) → In e (putInOrder a es) → (e ≡ a) ⊎ In e es
+unfolding putInOrder
 in-insert a e [] m = m
 in-insert a e (x ∷ es) m = go (in-insert a e es) (below x a) m
   where
-    go : (In e (insert a es) → (e ≡ a) ⊎ In e es) → (b : Bool) → In e (cond b (x ∷ insert a es) (a ∷ x ∷ es)) → (e ≡ a) ⊎ In e (x ∷ es)
+    go : (In e (putInOrder a es) → (e ≡ a) ⊎ In e es) → (b : Bool) → In e (cond b (x ∷ putInOrder a es) (a ∷ x ∷ es)) → (e ≡ a) ⊎ In e (x ∷ es)
     go rec true (inl q) = inr (inl q)
     go rec true (inr k) = ⊎-elim (λ q. inl q) (λ j. inr (inr j)) (rec k)
     go rec false k = k
 
-insert-in : (a e : Event) (es : List Event) → (e ≡ a) ⊎ In e es → In e (insert a es)
-unfolding insert
+insert-in : (a e : Event) (es : List Event) → (e ≡ a) ⊎ In e es → In e (putInOrder a es)
+unfolding putInOrder
 insert-in a e [] m = m
 insert-in a e (x ∷ es) m = go (insert-in a e es) (below x a) m
   where
-    go : ((e ≡ a) ⊎ In e es → In e (insert a es)) → (b : Bool) → (e ≡ a) ⊎ In e (x ∷ es) → In e (cond b (x ∷ insert a es) (a ∷ x ∷ es))
+    go : ((e ≡ a) ⊎ In e es → In e (putInOrder a es)) → (b : Bool) → (e ≡ a) ⊎ In e (x ∷ es) → In e (cond b (x ∷ putInOrder a es) (a ∷ x ∷ es))
     go rec true (inl q) = inr (rec (inl q))
     go rec true (inr (inl q)) = inl q
     go rec true (inr (inr k)) = inr (rec (inr k))
@@ -107,76 +107,76 @@ less-none [] = refl
 less-none (x ∷ es) = ap (λ (l : List Event). x ∷ l) (less-none es)
 
 module _ (p : Event → Bool) where
-  count-insert : (a : Event) (es : List Event) → count p (insert a es) ≡ count p (a ∷ es)
-  unfolding insert
+  count-insert : (a : Event) (es : List Event) → howMany p (putInOrder a es) ≡ howMany p (a ∷ es)
+  unfolding putInOrder
   count-insert a [] = refl
   count-insert a (x ∷ es) = go (count-insert a es) (below x a) (p x) (p a)
     where
-      go : count p (insert a es) ≡ count p (a ∷ es) → (b c d : Bool)
-          → count p (cond b (x ∷ insert a es) (a ∷ x ∷ es)) ≡ count p (a ∷ x ∷ es)
+      go : howMany p (putInOrder a es) ≡ howMany p (a ∷ es) → (b c d : Bool)
+          → howMany p (cond b (x ∷ putInOrder a es) (a ∷ x ∷ es)) ≡ howMany p (a ∷ x ∷ es)
       go rec true c d = swap (p x) (p a) rec
         where
-          swap : (c d : Bool) → count p (insert a es) ≡ cond d (suc (count p es)) (count p es)
-              → cond c (suc (count p (insert a es))) (count p (insert a es)) ≡ cond d (suc (cond c (suc (count p es)) (count p es))) (cond c (suc (count p es)) (count p es))
+          swap : (c d : Bool) → howMany p (putInOrder a es) ≡ cond d (suc (howMany p es)) (howMany p es)
+              → cond c (suc (howMany p (putInOrder a es))) (howMany p (putInOrder a es)) ≡ cond d (suc (cond c (suc (howMany p es)) (howMany p es))) (cond c (suc (howMany p es)) (howMany p es))
           swap true true e = ap suc e
           swap true false e = ap suc e
           swap false true e = e
           swap false false e = e
       go rec false c d = refl
 
-  count-plus : (xs es : List Event) → count p (plus xs es) ≡ count p xs + count p es
+  count-plus : (xs es : List Event) → howMany p (plus xs es) ≡ howMany p xs + howMany p es
   unfolding plus
   count-plus [] es = omega arith
   count-plus (a ∷ xs) es = count-insert a (plus xs es) ∙ go (p a) (count-plus xs es)
     where
-      go : (b : Bool) → count p (plus xs es) ≡ count p xs + count p es → cond b (suc (count p (plus xs es))) (count p (plus xs es)) ≡ cond b (suc (count p xs)) (count p xs) + count p es
+      go : (b : Bool) → howMany p (plus xs es) ≡ howMany p xs + howMany p es → cond b (suc (howMany p (plus xs es))) (howMany p (plus xs es)) ≡ cond b (suc (howMany p xs)) (howMany p xs) + howMany p es
       go true e = omega arith
       go false e = e
 
-  except-all : (d : Event) (es : List Event) → (In d es → ⊥) → count p (except d es) ≡ count p es
+  except-all : (d : Event) (es : List Event) → (In d es → ⊥) → howMany p (except d es) ≡ howMany p es
   except-all d [] ne = refl
   except-all d (x ∷ es) ne = go (same x d) refl (except-all d es (λ m. ne (inr m)))
     where
-      go : (b : Bool) → same x d ≡ b → count p (except d es) ≡ count p es → count p (cond (not b) (x ∷ except d es) (except d es)) ≡ count p (x ∷ es)
+      go : (b : Bool) → same x d ≡ b → howMany p (except d es) ≡ howMany p es → howMany p (cond (not b) (x ∷ except d es) (except d es)) ≡ howMany p (x ∷ es)
       go true e r = absurd (ne (inl (sym (same-is x d (of-true (same x d) e)))))
       go false e r = ap (λ (n : ℕ). cond (p x) (suc n) n) r
 
-  except-one : (d : Event) (es : List Event) → Distinct es → In d es → count p (d ∷ except d es) ≡ count p es
+  except-one : (d : Event) (es : List Event) → Distinct es → In d es → howMany p (d ∷ except d es) ≡ howMany p es
   except-one d [] dis m = absurd m
   except-one d (x ∷ es) dis m = go (same x d) refl (λ (k : In d es). except-one d es (dis .1) k) m
     where
-      go : (b : Bool) → same x d ≡ b → (In d es → count p (d ∷ except d es) ≡ count p es) → In d (x ∷ es) → count p (d ∷ cond (not b) (x ∷ except d es) (except d es)) ≡ count p (x ∷ es)
+      go : (b : Bool) → same x d ≡ b → (In d es → howMany p (d ∷ except d es) ≡ howMany p es) → In d (x ∷ es) → howMany p (d ∷ cond (not b) (x ∷ except d es) (except d es)) ≡ howMany p (x ∷ es)
       go true e r k =
           let q : x ≡ d = same-is x d (of-true (same x d) e) in
           ap (λ (n : ℕ). cond (p d) (suc n) n) (except-all d es (λ j. dis .0 (subst (λ (y : Event). In y es) (sym q) j)))
-          ∙ ap (λ (y : Event). cond (p y) (suc (count p es)) (count p es)) (sym q)
+          ∙ ap (λ (y : Event). cond (p y) (suc (howMany p es)) (howMany p es)) (sym q)
       go false e r (inl q) = absurd (subst T e (is-same-T x d (sym q)))
       go false e r (inr k) = swap (p d) (p x) (r k)
         where
-          swap : (c b : Bool) → cond c (suc (count p (except d es))) (count p (except d es)) ≡ count p es
-              → cond c (suc (cond b (suc (count p (except d es))) (count p (except d es)))) (cond b (suc (count p (except d es))) (count p (except d es))) ≡ cond b (suc (count p es)) (count p es)
+          swap : (c b : Bool) → cond c (suc (howMany p (except d es))) (howMany p (except d es)) ≡ howMany p es
+              → cond c (suc (cond b (suc (howMany p (except d es))) (howMany p (except d es)))) (cond b (suc (howMany p (except d es))) (howMany p (except d es))) ≡ cond b (suc (howMany p es)) (howMany p es)
           swap true true i = ap suc i
           swap true false i = i
           swap false true i = ap suc i
           swap false false i = i
 
-  count-less : (ds es : List Event) → Distinct ds → Distinct es → ((e : Event) → In e ds → In e es) → count p (less ds es) + count p ds ≡ count p es
-  count-less [] es dd de sub = omega (arith, ap (count p) (less-none es))
+  count-less : (ds es : List Event) → Distinct ds → Distinct es → ((e : Event) → In e ds → In e es) → howMany p (less ds es) + howMany p ds ≡ howMany p es
+  count-less [] es dd de sub = omega (arith, ap (howMany p) (less-none es))
   count-less (d ∷ ds) es dd de sub =
       let r =
       count-less ds (except d es) (dd .1) (distinct-those (λ (x : Event). not (same x d)) es de)
       (λ e m. those-in (λ (x : Event). not (same x d)) e es (sub e (inr m)) (not-T (same e d) (λ t. dd .0 (subst (λ (y : Event). In y ds) (same-is e d t) m)))) in
-      go (p d) (ap (count p) (less-step d ds es)) r (except-one d es de (sub d (inl refl)))
+      go (p d) (ap (howMany p) (less-step d ds es)) r (except-one d es de (sub d (inl refl)))
     where
-      go : (b : Bool) → count p (less (d ∷ ds) es) ≡ count p (less ds (except d es)) → count p (less ds (except d es)) + count p ds ≡ count p (except d es)
-          → cond b (suc (count p (except d es))) (count p (except d es)) ≡ count p es
-          → count p (less (d ∷ ds) es) + cond b (suc (count p ds)) (count p ds) ≡ count p es
+      go : (b : Bool) → howMany p (less (d ∷ ds) es) ≡ howMany p (less ds (except d es)) → howMany p (less ds (except d es)) + howMany p ds ≡ howMany p (except d es)
+          → cond b (suc (howMany p (except d es))) (howMany p (except d es)) ≡ howMany p es
+          → howMany p (less (d ∷ ds) es) + cond b (suc (howMany p ds)) (howMany p ds) ≡ howMany p es
       go true e r k = omega arith
       go false e r k = omega arith
 
   -- after, and deleted, are as many as before, and added
   pub count-after : (live added deleted : List Event) → Distinct live → Distinct deleted → ((e : Event) → In e deleted → In e live)
-      → count p (eventsAfter live added deleted) + count p deleted ≡ count p live + count p added
+      → howMany p (eventsAfter live added deleted) + howMany p deleted ≡ howMany p live + howMany p added
   unfolding eventsAfter
   count-after live added deleted dl dd sub = omega (arith, count-plus added (less deleted live), count-less deleted live dd dl sub)
 
@@ -189,7 +189,7 @@ after-none live = less-none live
 abbrev pub every : Event → Bool
 every e = true
 
-pub count-every : (es : List Event) → count every es ≡ length es
+pub count-every : (es : List Event) → howMany every es ≡ length es
 count-every [] = refl
 count-every (x ∷ es) = ap suc (count-every es)
 
@@ -205,12 +205,12 @@ Up es = Rising Below es
 pub up-distinct : (es : List Event) → Up es → Distinct es
 up-distinct es u = rising-distinct Below below-asym es u
 
-up-insert : (a : Event) (es : List Event) → (In a es → ⊥) → Up es → Up (insert a es)
-unfolding insert
+up-insert : (a : Event) (es : List Event) → (In a es → ⊥) → Up es → Up (putInOrder a es)
+unfolding putInOrder
 up-insert a [] ne u = ((λ y m. absurd m), tt)
 up-insert a (x ∷ es) ne u = go (below x a) refl (up-insert a es (λ m. ne (inr m)) (u .1))
   where
-    go : (b : Bool) → below x a ≡ b → Up (insert a es) → Up (cond b (x ∷ insert a es) (a ∷ x ∷ es))
+    go : (b : Bool) → below x a ≡ b → Up (putInOrder a es) → Up (cond b (x ∷ putInOrder a es) (a ∷ x ∷ es))
     go true e r = ((λ y m. ⊎-elim (λ q. subst (λ (z : Event). T (below x z)) (sym q) (of-true (below x a) e)) (λ k. u .0 y k) (in-insert a y es m)), r)
     go false e r =
         let h : T (below a x) = ⊎-elim (λ q. absurd (ne (inl (sym q)))) (λ t. t) (below-else x a e) in

@@ -14,7 +14,7 @@ use Rattle.lines_places.specs.Sorted.{putIn, place}
 use Rattle.lines_places.specs.Inside.{Lt, Over, Asc}
 use Rattle.lines_places.proofs.Order.{over-down}
 use Rattle.lines_places.proofs.SortedLaws.{ascends-asc}
-use Rattle.ledger.specs.Ledger.{isLiveSlot, slotFollows, isAmong, insert, plus, less, liveSlot}
+use Rattle.ledger.specs.Ledger.{isLiveSlot, slotFollows, isAmong, putInOrder, plus, less, liveSlot}
 use Rattle.ledger.specs.Inside.{whole}
 use Rattle.ledger.proofs.HeldLaws.{live-slot}
 
@@ -111,13 +111,13 @@ less-live ds (e ∷ es) = rw (among-live ds e) (go (not (isAmong ds e)) (less-li
     go true r = ap (λ (l : List Text). liveSlot e ∷ l) r
     go false r = r
 
-put-live : (x : Text) (es : List Text) → putIn whole (liveSlot x) (map liveSlot es) ≡ map liveSlot (insert x es)
-unfolding putIn insert
+put-live : (x : Text) (es : List Text) → putIn whole (liveSlot x) (map liveSlot es) ≡ map liveSlot (putInOrder x es)
+unfolding putIn putInOrder
 put-live x [] = refl
 put-live x (e ∷ es) = rw (below-live e x) (go (below e x) (put-live x es))
   where
-    go : (b : Bool) → putIn whole (liveSlot x) (map liveSlot es) ≡ map liveSlot (insert x es)
-        → cond b (liveSlot e ∷ putIn whole (liveSlot x) (map liveSlot es)) (liveSlot x ∷ (liveSlot e ∷ map liveSlot es)) ≡ map liveSlot (cond b (e ∷ insert x es) (x ∷ (e ∷ es)))
+    go : (b : Bool) → putIn whole (liveSlot x) (map liveSlot es) ≡ map liveSlot (putInOrder x es)
+        → cond b (liveSlot e ∷ putIn whole (liveSlot x) (map liveSlot es)) (liveSlot x ∷ (liveSlot e ∷ map liveSlot es)) ≡ map liveSlot (cond b (e ∷ putInOrder x es) (x ∷ (e ∷ es)))
     go true r = ap (λ (l : List Text). liveSlot e ∷ l) r
     go false r = refl
 
@@ -127,8 +127,8 @@ place-live [] es = refl
 place-live (g ∷ gs) es = ap (putIn whole (liveSlot g)) (place-live gs es) ∙ put-live g (plus gs es)
 
 -- insertion as the sort places
-insert-put : (x : Text) (es : List Text) → insert x es ≡ putIn whole x es
-unfolding insert putIn
+insert-put : (x : Text) (es : List Text) → putInOrder x es ≡ putIn whole x es
+unfolding putInOrder putIn
 insert-put x [] = refl
 insert-put x (e ∷ es) = rw (insert-put x es)
 

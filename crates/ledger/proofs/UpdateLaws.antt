@@ -11,7 +11,7 @@ use borrow.Author.Tests.{eq-eqb, ne-eqb, le-leb, leb-true, leb-false}
 use lib.Dec.{eqb, leb}
 use lib.ListN.{length, take, drop, getD, replicate, length-map}
 use lib.Seq.{take-at, take-add}
-use Rattle.house.specs.Text.{Text, those, count, adjacent, joined, below, same}
+use Rattle.house.specs.Text.{Text, those, howMany, adjacent, joined, below, same}
 use Rattle.house.proofs.Small.{both}
 use Rattle.house.proofs.Suffix.{drop-here, drop-past}
 use Rattle.lines_places.specs.Events.{eventAt, eventsAt, ascends}
@@ -33,13 +33,13 @@ listed-found l f live x p k r e a b = b ∙ ap (foundIn l live) (a ∙ ap (event
 pub ruleset for-is-listed-live = (needs, listed-found)
 
 -- count_listed
-module _ (l f : Text) (live : ℕ) (ps : List ℕ) (i n x : ℕ) (inv : x ≡ n + count (foundIn l live) (eventsAt f (drop i ps))) where
+module _ (l f : Text) (live : ℕ) (ps : List ℕ) (i n x : ℕ) (inv : x ≡ n + howMany (foundIn l live) (eventsAt f (drop i ps))) where
   module _ (h : i < length ps) (r : Bool) (er : r ≡ foundIn l live (eventAt f (getD ps i 0))) where
-    pub listed-live : r ≡ true → x ≡ n + 1 + count (foundIn l live) (eventsAt f (drop (i + 1) ps))
+    pub listed-live : r ≡ true → x ≡ n + 1 + howMany (foundIn l live) (eventsAt f (drop (i + 1) ps))
     unfolding eventsAt
     listed-live z = rw (inv, drop-here ps i h, ← er, z) (omega arith)
 
-    pub listed-not : r ≡ false → x ≡ n + count (foundIn l live) (eventsAt f (drop (i + 1) ps))
+    pub listed-not : r ≡ false → x ≡ n + howMany (foundIn l live) (eventsAt f (drop (i + 1) ps))
     unfolding eventsAt
     listed-not z = rw (inv, drop-here ps i h, ← er, z)
 
@@ -47,25 +47,25 @@ module _ (l f : Text) (live : ℕ) (ps : List ℕ) (i n x : ℕ) (inv : x ≡ n 
   unfolding eventsAt
   listed-end h = rw (inv, drop-past ps i h) (omega arith)
 
-pub listed-start : (l f : Text) (live : ℕ) (ps : List ℕ) → count (foundIn l live) (eventsAt f ps) ≡ 0 + count (foundIn l live) (eventsAt f (drop 0 ps))
+pub listed-start : (l f : Text) (live : ℕ) (ps : List ℕ) → howMany (foundIn l live) (eventsAt f ps) ≡ 0 + howMany (foundIn l live) (eventsAt f (drop 0 ps))
 listed-start l f live ps = omega arith
 
 pub ruleset for-count-listed = (needs, listed-live, listed-not, listed-end)
 
 -- has_room
-pub room-is : (l f : Text) (gs ds : List ℕ) (live gone : ℕ) → live ≡ length (those isLiveSlot (slots l)) → gone ≡ count (foundIn l live) (eventsAt f ds)
+pub room-is : (l f : Text) (gs ds : List ℕ) (live gone : ℕ) → live ≡ length (those isLiveSlot (slots l)) → gone ≡ howMany (foundIn l live) (eventsAt f ds)
     → leb (live + length gs) (length l / 38 + gone) ≡ hasRoom l f gs ds
 unfolding hasRoom
 room-is l f gs ds live gone p q = rw (← p, ← q)
 
 pub room-more : (l f : Text) (gs ds : List ℕ) (live : ℕ) → live ≡ length (those isLiveSlot (slots l)) → live + length gs ≤ length l / 38 → true ≡ hasRoom l f gs ds
 unfolding hasRoom
-room-more l f gs ds live p h = rw (← p) (sym (le-leb (live + length gs) (length l / 38 + count (foundIn l live) (eventsAt f ds)) (omega arith)))
+room-more l f gs ds live p h = rw (← p) (sym (le-leb (live + length gs) (length l / 38 + howMany (foundIn l live) (eventsAt f ds)) (omega arith)))
 
 pub ruleset for-has-room = (needs, room-is, room-more)
 
 -- is_fit
-count-same : {A : Type 0} (p q : A → Bool) (xs : List A) → ((x : A) → p x ≡ q x) → count p xs ≡ count q xs
+count-same : {A : Type 0} (p q : A → Bool) (xs : List A) → ((x : A) → p x ≡ q x) → howMany p xs ≡ howMany q xs
 count-same p q [] h = refl
 count-same p q (x ∷ xs) h = rw (h x, count-same p q xs h)
 
@@ -88,12 +88,12 @@ room-after : (l f : Text) (gs ds : List ℕ) → adjacent slotFollows (slots l) 
 unfolding hasRoom slotsIn
 room-after l f gs ds o d =
     let n : length (liveIn l) ≡ length (those isLiveSlot (slots l)) = live-length l o in
-    let c : count (foundIn l (length (those isLiveSlot (slots l)))) (eventsAt f ds) ≡ count (isAmong (liveIn l)) (eventsAt f ds) =
+    let c : howMany (foundIn l (length (those isLiveSlot (slots l)))) (eventsAt f ds) ≡ howMany (isAmong (liveIn l)) (eventsAt f ds) =
     count-same (foundIn l (length (those isLiveSlot (slots l)))) (isAmong (liveIn l)) (eventsAt f ds) (λ e. found-among l o e (length (those isLiveSlot (slots l))) (sym n)) in
-    let a : length (eventsAfter (liveIn l) (eventsAt f gs) (eventsAt f ds)) + count (isAmong (liveIn l)) (eventsAt f ds) ≡ length (liveIn l) + length (eventsAt f gs) =
+    let a : length (eventsAfter (liveIn l) (eventsAt f gs) (eventsAt f ds)) + howMany (isAmong (liveIn l)) (eventsAt f ds) ≡ length (liveIn l) + length (eventsAt f gs) =
     after-length (liveIn l) (eventsAt f gs) (eventsAt f ds) (live-up l o) (events-asc (eventsAt f ds) d) in
     let m : length (eventsAt f gs) ≡ length gs = length-at f gs in
-    rw c (leb-same (length (those isLiveSlot (slots l)) + length gs) (length l / 38 + count (isAmong (liveIn l)) (eventsAt f ds)) (length (eventsAfter (liveIn l) (eventsAt f gs) (eventsAt f ds))) (length l / 38) (λ h. omega arith) (λ h. omega arith))
+    rw c (leb-same (length (those isLiveSlot (slots l)) + length gs) (length l / 38 + howMany (isAmong (liveIn l)) (eventsAt f ds)) (length (eventsAfter (liveIn l) (eventsAt f gs) (eventsAt f ds))) (length l / 38) (λ h. omega arith) (λ h. omega arith))
 
 module _ (l f : Text) (gs ds : List ℕ) where
   pub fit-odd : (length l % 38 ≡ 0 → ⊥) → false ≡ isFit l f gs ds
@@ -230,7 +230,7 @@ module _ (l f : Text) (gs ds : List ℕ) where
   fit-ok ok a d r = rw (ok-whole l ok, ok-order l ok, a, d, le-leb _ _ r)
 
   -- the room by numbers: live and added against slots and those of the deleted that are live
-  pub fit-numbers : ledgerOk l ≡ true → ascends (eventsAt f gs) ≡ true → ascends (eventsAt f ds) ≡ true → length (liveIn l) + length gs ≤ slotsIn l + count (isAmong (liveIn l)) (eventsAt f ds) → isFit l f gs ds ≡ true
+  pub fit-numbers : ledgerOk l ≡ true → ascends (eventsAt f gs) ≡ true → ascends (eventsAt f ds) ≡ true → length (liveIn l) + length gs ≤ slotsIn l + howMany (isAmong (liveIn l)) (eventsAt f ds) → isFit l f gs ds ≡ true
   fit-numbers ok a d r =
       fit-ok ok a d
       (omega (arith, after-length (liveIn l) (eventsAt f gs) (eventsAt f ds) (live-up l (ok-order l ok)) (events-asc (eventsAt f ds) d), length-at f gs))

@@ -8,7 +8,7 @@ use lib.ListN.{length, getD, replicate}
 use lib.Dec.{leb, ltb}
 use Rattle.house.specs.declared.Order.{Order}
 use Rattle.house.specs.declared.Order.the-variants.{More}
-use Rattle.house.specs.Text.{Text, all, those, count, adjacent, orderOf, below}
+use Rattle.house.specs.Text.{Text, all, those, howMany, adjacent, orderOf, below}
 use Rattle.lines_places.specs.Events.{eventAt, eventsAt, ascends}
 use Rattle.ledger.specs.declared.Validity.{Validity}
 use Rattle.ledger.specs.declared.Validity.the-variants.{Sound, Malformed}
@@ -54,7 +54,7 @@ lastOf ss i t = cond (goesLast ss i t) (getD ss (i - 1) []) t
 -- what is live and added has room in the slots and those of the deleted that are found live
 unfoldable pub hasRoom : Text → Text → List ℕ → List ℕ → Bool
 hasRoom s f adds deletes =
-    leb (length (those isLiveSlot (slots s)) + length adds) (length s / slotBytes + count (foundIn s (length (those isLiveSlot (slots s)))) (eventsAt f deletes))
+    leb (length (those isLiveSlot (slots s)) + length adds) (length s / slotBytes + howMany (foundIn s (length (those isLiveSlot (slots s)))) (eventsAt f deletes))
 
 -- the ledger and the lines at these places are fit for an update, test by test
 pub record Fit (s f : Text) (adds deletes : List ℕ) : Type 0 where

@@ -9,7 +9,7 @@ use lib.ListN.{length, getD, take, drop, replicate}
 use lib.Dec.{eqb, leb}
 use Rattle.house.specs.Text.{Text, any, all, those, joined, adjacent, orderOf, same, below, run, isDigit, isPadded}
 use Rattle.dates.specs.Dates.{isDate}
-use Rattle.house.specs.Search.{halve}
+use Rattle.house.specs.Search.{binarySearch}
 use Rattle.lines_places.specs.Events.{eventsAt, ascends}
 use Rattle.ledger.specs.declared.Validity.{Validity}
 use Rattle.ledger.specs.declared.Validity.the-variants.{Sound, Malformed}
@@ -82,18 +82,18 @@ slotsAsked s n = cond (leb n (slotsIn s)) n (slotsIn s)
 
 -- what halving the first n slots finds. Of a ledger that is well formed, whose live events are n, it is whether the event is live.
 unfoldable pub foundIn : Text → ℕ → Event → Bool
-foundIn s n e = halve (λ (i : ℕ). orderOf (eventIn s i) e) (λ (i : ℕ). true) false (slotsAsked s n) 0 (slotsAsked s n)
+foundIn s n e = binarySearch (λ (i : ℕ). orderOf (eventIn s i) e) (λ (i : ℕ). true) false (slotsAsked s n) 0 (slotsAsked s n)
 
 -- "exactly the events live before, plus the added, less the deleted"
 
 -- an event put before the first that does not stand below it
-unfoldable pub insert : Event → List Event → List Event
-insert e [] = e ∷ []
-insert e (x ∷ xs) = cond (below x e) (x ∷ insert e xs) (e ∷ x ∷ xs)
+unfoldable pub putInOrder : Event → List Event → List Event
+putInOrder e [] = e ∷ []
+putInOrder e (x ∷ xs) = cond (below x e) (x ∷ putInOrder e xs) (e ∷ x ∷ xs)
 
 unfoldable pub plus : List Event → List Event → List Event
 plus [] es = es
-plus (a ∷ added) es = insert a (plus added es)
+plus (a ∷ added) es = putInOrder a (plus added es)
 
 unfoldable pub less : List Event → List Event → List Event
 less deleted es = those (λ (e : Event). not (isAmong deleted e)) es

@@ -13,7 +13,7 @@ ghost use mathlib.Core.Bool.{true, false};
 ghost use mathlib.Core.List.{_++_};
 ghost use Prim.Native.Nat.{_+_, _*_, _-_, _/_, _%_, _<_, _≤_};
 ghost use lib.ListN.{length, getD, take, drop, set, replicate};
-ghost use Rattle.house.specs.Text.{those, count};
+ghost use Rattle.house.specs.Text.{those, howMany};
 ghost use Rattle.lines_places.specs.Events.{eventAt, eventsAt};
 ghost use Rattle.lines_places.specs.Sorted.{place};
 ghost use Rattle.lines_places.specs.Inside.{Asc, Up};
@@ -158,7 +158,7 @@ fn is_listed_live(ledger: &[u8], live: usize, file: &[u8], places: &[u32], j: us
 
 // How many of the events of the lines at these places are live.
 fn count_listed(ledger: &[u8], live: usize, file: &[u8], places: &[u32]) -> usize
-    ensures { λ r. ⌜ r ≡ count (foundIn (now (ledger .entry)) live) (eventsAt (now (file .entry)) (now (places .entry))) ⌝ }
+    ensures { λ r. ⌜ r ≡ howMany (foundIn (now (ledger .entry)) live) (eventsAt (now (file .entry)) (now (places .entry))) ⌝ }
     ensures { λ r. ⌜ r ≤ length (now (places .entry)) ⌝ }
 {
     let mut n = 0;

@@ -15,7 +15,7 @@ use Rattle.rules_definitions.specs.Seen.{Setting, Seen}
 use Rattle.rules_definitions.specs.Rules.{brokenAt}
 use Rattle.rules_forms.specs.FieldLeaves.{lowest}
 use Rattle.rules.specs.Inside.{some, listed}
-use Rattle.rules_fields.specs.Fields.{broken, codeLater, ledgerRule}
+use Rattle.rules_fields.specs.Fields.{broken, codeLater, rules16to18At}
 use Rattle.rules.specs.Fields.{laterAt}
 use Rattle.rules.proofs.Collapse.{when, one-rule, broken-split, sound-later, code-later, site-later, sounds, codes, sites, ledgers, iv-2, ii-4}
 
@@ -103,9 +103,9 @@ one-type : (t : Text) → same t changes ≡ true → same t deletes ≡ false
 unfolding same orderOf
 one-type t h = rw (same-is t changes (of-true (same t changes) h))
 
-pub ledger-at : (s : Setting) (v : Seen) → v .line .kind ≡ II
-    → brokenAt s v 4 ≡ listed (broken (lowest II (v .line) 4 0) (ledgerRule (v .in-block) (text (v .line) 4) (v .live)) 0)
-unfolding listed ledgerRule
-ledger-at s v e =
+pub rules16-to-18-ii4 : (s : Setting) (v : Seen) → v .line .kind ≡ II
+    → brokenAt s v 4 ≡ listed (broken (lowest II (v .line) 4 0) (rules16to18At (v .in-block) (text (v .line) 4) (v .live)) 0)
+unfolding listed rules16to18At
+rules16-to-18-ii4 s v e =
     at-split s v II 4 e
     ∙ rw (ii-4 s v e, ledger-rules (v .in-block) (same (text (v .line) 4) adds) (same (text (v .line) 4) changes) (same (text (v .line) 4) deletes) (v .live) (one-type (text (v .line) 4)))

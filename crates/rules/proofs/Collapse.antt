@@ -11,7 +11,7 @@ use Rattle.house.specs.Text.{bytes, same, any, number, isEmpty}
 use Rattle.house.proofs.Small.{clash}
 use Rattle.lines.specs.Records.{Rec, IV, IP, II, IE, IN, IA}
 use Rattle.rules_definitions.specs.Forms.{text, formOf, isJudged, isOptional, isMissing, isMisformed, isSound, isGiven}
-use Rattle.rules_definitions.specs.Places.{isNumbered}
+use Rattle.rules_definitions.specs.Contexts.{isNumbered}
 use Rattle.rules_definitions.specs.Seen.{Setting, Seen}
 use Rattle.rules_definitions.specs.Blocks.{adds, changes, deletes}
 use Rattle.rules_definitions.specs.Codes.{isSite, isMethod, bookKind, isCodeField, codeIn, isKnown, dayIsSound, isInForce}

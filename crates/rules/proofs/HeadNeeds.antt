@@ -25,11 +25,11 @@ use Rattle.rules_lists.proofs.ListLaws.{antigens-are}
 use Rattle.rules_fields.specs.declared.Broken.{Broken}
 use Rattle.rules_fields.specs.declared.Day.{Day}
 use Rattle.rules.specs.Inside.{listed}
-use Rattle.rules_fields.specs.Fields.{broken, codeBy, pairBy, antigenAt}
+use Rattle.rules_fields.specs.Fields.{broken, codeBy, rule11By, ie4Antigen}
 use Rattle.rules.specs.Fields.{Shows, DayIs, Looks}
 use Rattle.rules.proofs.Collapse.{ie-2, ie-3, ie-4, ie-rest}
 use Rattle.rules.proofs.AtLaws.{code-two}
-use Rattle.rules.proofs.RuleLaws.{any-reverse, eleven-ie, twelve}
+use Rattle.rules.proofs.RuleLaws.{any-reverse, rule11-ie4, rule12-ie4}
 use Rattle.rules.proofs.FieldNeeds.{mandatory, kind-at, plain-either, number-at, uli-at, known-same, force-same, code-is}
 
 -- RULE 11
@@ -44,7 +44,7 @@ module _ (s : Setting) (v : Seen) (today : ℕ) (book : Text) (q : Sections) (da
   unfolding codeIn bookKind codeRead
   vaccine-is = ap (λ (h : Rec). codeText 1 (text h 8) []) hv
 
-  pub pair-is : pairBy k (recOf line) f of t pair (recOf head) book q day
+  pub pair-is : rule11By k (recOf line) f of t pair (recOf head) book q day
       ≡ cond ((isGiven II (v .head) 8 && s .known 1 (codeIn II (v .head) 8)) && (isGiven k (v .line) f && s .known of (codeIn k (v .line) f)) && (not (s .known pair (pairIn v f)) || (dayIsSound v && not (isInForce s v pair (pairIn v f))))) 11 0
   pair-is =
       six 11 _ _ _ _ _ _ _ _ _ _ _ _ (ap (λ (h : Rec). isGiven II h 8) (sym hv)) (known-same s v today book q day ls d 1 (codeIn II (v .head) 8) (codeText 1 (text (recOf head) 8) []) vaccine-is)
@@ -103,11 +103,11 @@ module _ (line t ip head since book : Text) (q : Sections) (place born : ℕ) (d
         ap (λ (u : Bool). cond (isSound IE (recOf line) 4 && u) n 0) (sym (any-reverse (sameAntigen (recOf line)) (recs since)))
         ∙ ap (λ (l : Rec). cond (isSound IE l 4 && any (sameAntigen l) (reverse (recs since))) n 0) (sym (sh .line-is))
         ∙ ap (λ (ps : List Rec). cond (isSound IE (v .line) 4 && any (sameAntigen (v .line)) ps) n 0) (sym av)
-        ∙ ap (λ (u : Bool). cond u n 0) (sym (twelve s v kind-ie))
+        ∙ ap (λ (u : Bool). cond u n 0) (sym (rule12-ie4 s v kind-ie))
 
-    eleven-4 : pairBy IE (recOf line) 4 2 (fieldOf line 4) 8 (recOf head) book q day ≡ cond (rule11 s v 4) 11 0
+    eleven-4 : rule11By IE (recOf line) 4 2 (fieldOf line 4) 8 (recOf head) book q day ≡ cond (rule11 s v 4) 11 0
     eleven-4 =
-        pair-is s v today book q day ls d line head (fieldOf line 4) (sh .line-is) hv 5 4 2 8 code-4 pair-4 ∙ sym (ap (ruled 11) (eleven-ie s v kind-ie))
+        pair-is s v today book q day ls d line head (fieldOf line 4) (sh .line-is) hv 5 4 2 8 code-4 pair-4 ∙ sym (ap (ruled 11) (rule11-ie4 s v kind-ie))
 
     sound-4 : eqb (lowestIn IE false 4 (fieldOf line 4) 0) 0 ≡ isSound IE (recOf line) 4
     unfolding soundAs
@@ -122,8 +122,8 @@ module _ (line t ip head since book : Text) (q : Sections) (place born : ℕ) (d
         ∙ ap (λ (u : Bool). cond (isSound IE (recOf line) 4 && u) 12 0) (antigens-are (recOf line) (fieldOf line 4) (recs since) (sym (text-is line 4)))
         ∙ again-4 12
 
-    at-4 : listed (antigenAt line head since (fieldOf line 4) book q day) ≡ brokenAt s v 4
-    unfolding antigenAt codeIn bookKind codeRead
+    at-4 : listed (ie4Antigen line head since (fieldOf line 4) book q day) ≡ brokenAt s v 4
+    unfolding ie4Antigen codeIn bookKind codeRead
     at-4 =
         three-same _ _ _ _ _ _
         (code-is (codeBy IE false 4 (fieldOf line 4) 2 (fieldOf line 4) book q day) line s v (sh .line-is) today book q day ls d 5 4 2 (fieldOf line 4) false refl refl refl (inl refl))
@@ -132,9 +132,9 @@ module _ (line t ip head since book : Text) (q : Sections) (place born : ℕ) (d
         (code-two s v IE 4 kind-ie (s .known 2 (codeIn IE (v .line) 4)) (dayIsSound v && not (isInForce s v 2 (codeIn IE (v .line) 4))) (rule11 s v 4) (rule12 s v 4) 11 12 refl refl
         (ie-4 s v kind-ie))
 
-  pub need-ie-4 : f ≡ 4 → b ≡ antigenAt line head since t book q day
+  pub need-ie-4 : f ≡ 4 → b ≡ ie4Antigen line head since t book q day
       → (s : Setting) (v : Seen) → Looks today book q s → Shows place born line ip v → DayIs day v → v .head ≡ recOf head → v .antigens ≡ reverse (recs since) → listed b ≡ brokenAt s v f
   need-ie-4 h p s v ls sh d hv av =
-      rw (h, p) (ap (λ (u : Text). listed (antigenAt line head since u book q day)) (dt ∙ ap (fieldOf line) h) ∙ at-4 s v ls sh d hv av)
+      rw (h, p) (ap (λ (u : Text). listed (ie4Antigen line head since u book q day)) (dt ∙ ap (fieldOf line) h) ∙ at-4 s v ls sh d hv av)
 
 pub ruleset for-judge-ie = (needs, need-ie-2, need-ie-3, need-ie-4, need-ie-rest)

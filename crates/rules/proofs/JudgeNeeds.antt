@@ -10,7 +10,7 @@ use borrow.Author.Needs.{needs}
 use borrow.Author.Tests.{leb-true}
 use lib.Dec.{leb}
 use lib.ListN.{length, take}
-use Rattle.house.specs.Text.{Text, count}
+use Rattle.house.specs.Text.{Text, howMany}
 use Rattle.house.proofs.Small.{both, clash}
 use Rattle.lines.specs.Records.{IN, isKind, recs}
 use Rattle.book.specs.declared.Sections.{Sections}
@@ -60,7 +60,7 @@ module _ (file : Text) (m : ℕ) (r : Built) (e : r ≡ builtOf file m) where
     area-none area z = rw (not-built z)
 
     module _ (n : ℕ) (t : Bool) (z : r ≡ Blocks n t) where
-      pub judged-done : (f d : ℕ) → f ≡ length (findingsBy today file book q ledger live) → d ≡ count (isKind IN) (recs file) → Done n f d ≡ judgedOf today file book q ledger live m
+      pub judged-done : (f d : ℕ) → f ≡ length (findingsBy today file book q ledger live) → d ≡ howMany (isKind IN) (recs file) → Done n f d ≡ judgedOf today file book q ledger live m
       unfolding judgedOf
       judged-done f d x y = rw (is-built n t z .0, is-built n t z .1 .0, x, y)
 

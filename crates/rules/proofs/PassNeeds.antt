@@ -10,7 +10,7 @@ use borrow.Author.Tests.{leb-true, eqb-true, eqb-false, ne-eqb}
 use lib.Dec.{eqb, leb}
 use lib.ListN.{length, take, drop, length-drop}
 use lib.Seq.{length-take-le}
-use Rattle.house.specs.Text.{Text, all, digits, number, isDigit, front, count, within}
+use Rattle.house.specs.Text.{Text, all, digits, number, isDigit, front, howMany, within}
 use Rattle.house.specs.Key.{keyOf}
 use Rattle.dates.specs.Dates.{isDate, isDay}
 use Rattle.house.proofs.Small.{both, clash}
@@ -22,7 +22,7 @@ use Rattle.lines_fields.specs.Inside.{part}
 use Rattle.lines_fields.proofs.FieldLaws.{fields-few}
 use Rattle.ledger.specs.Ledger.{foundIn}
 use Rattle.rules_definitions.specs.Forms.{text, isSound}
-use Rattle.rules_definitions.specs.Places.{headKind}
+use Rattle.rules_definitions.specs.Contexts.{headKind}
 use Rattle.rules_definitions.specs.Blocks.{eventOf}
 use Rattle.rules_definitions.specs.Seen.{Setting, Seen}
 use Rattle.rules_definitions.specs.Codes.{dayField, dayIsSound, recordDay}
@@ -170,8 +170,8 @@ module _ (file : Text) (at : ℕ) (st : State) (h : Holds file at st) (k : ℕ) 
       by : (x y z w : Bool) → Type 0
       by x y z w =
           cond x (dayIn II (partOf file here) 6) (cond y (st .known .«ii_day») (cond z (dayIn IN (partOf file here) 5) (st .known .«in_day»)))
-          ≡ cond x (dayIn II (partOf file (cond y (st .ii) (cond w (st .declined) here))) 6)
-          (cond y (dayIn II (partOf file (cond y (st .ii) (cond w (st .declined) here))) 6) (dayIn IN (partOf file (cond y (st .ii) (cond w (st .declined) here))) 5))
+          ≡ cond x (dayIn II (partOf file (cond y (st .ii) (cond w (st .refusal) here))) 6)
+          (cond y (dayIn II (partOf file (cond y (st .ii) (cond w (st .refusal) here))) 6) (dayIn IN (partOf file (cond y (st .ii) (cond w (st .refusal) here))) 5))
 
       go : (x y z w : Bool) → eqb k 4 ≡ x → eqb k 5 ≡ y → eqb k 6 ≡ z → eqb k 7 ≡ w → by x y z w
       go true true z w a b c d = let m : k ≡ 4 = eqb-true k 4 a in let n : k ≡ 5 = eqb-true k 5 b in absurd (omega (arith, m, n))
@@ -199,7 +199,7 @@ module _ (file : Text) (at : ℕ) (l : LineAt) (k : ℕ) (st : State) (b : Block
   end-in = omega (arith, e .within, e .on, g .less)
 
   abbrev by : Bool → Bool → Span
-  by a b = cond a (st .ii) (cond b (st .declined) (span at (l .end)))
+  by a b = cond a (st .ii) (cond b (st .refusal) (span at (l .end)))
 
   fits : (headAt st k (span at (l .end)) .start ≤ headAt st k (span at (l .end)) .end) × (headAt st k (span at (l .end)) .end ≤ length file)
   unfolding headAt
@@ -223,11 +223,11 @@ module _ (file : Text) (at : ℕ) (l : LineAt) (k : ℕ) (st : State) (b : Block
   long : length (part file at (l .end)) ≡ l .end - at
   long = length-take-le (l .end - at) (drop at file) (omega (arith, length-drop at file, end-in))
 
-  pub line-few : (count : ℕ) → count ≤ 3 * at → count + 3 * length (fieldsOf (part file at (l .end))) < 2 ^ 63
-  line-few count c = omega (arith, fields-few (part file at (l .end)), long, end-in, g .short, g .less)
+  pub line-few : (howMany : ℕ) → howMany ≤ 3 * at → howMany + 3 * length (fieldsOf (part file at (l .end))) < 2 ^ 63
+  line-few howMany c = omega (arith, fields-few (part file at (l .end)), long, end-in, g .short, g .less)
 
-  pub line-less : (count r : ℕ) → count ≤ 3 * at → r ≤ count + 3 * length (fieldsOf (part file at (l .end))) → r ≤ 3 * l .next
-  line-less count r c m = omega (arith, fields-few (part file at (l .end)), long, e .from, e .on)
+  pub line-less : (howMany r : ℕ) → howMany ≤ 3 * at → r ≤ howMany + 3 * length (fieldsOf (part file at (l .end))) → r ≤ 3 * l .next
+  line-less howMany r c m = omega (arith, fields-few (part file at (l .end)), long, e .from, e .on)
 
   pub parts-in : (p : Span) → p ≡ headAt st k (span at (l .end)) → (joined : Bool) (own : ℕ) → OwnEnd file joined (l .next) own → PartsIn file at l st (b .from) p own
   parts-in p i joined own o =
@@ -286,11 +286,11 @@ module _ (file : Text) (at : ℕ) (l : LineAt) (k : ℕ) (st : State) (b : Block
               };
         }
 
-    pub line-judged : (n count r : ℕ) (area after : Text)
+    pub line-judged : (n howMany r : ℕ) (area after : Text)
         → ((s : Setting) (v : Seen)
         → Told today book q (st .place) (st .known .born) (part file at (l .end)) (partOf file (st .ip)) (partOf file p) (part file (st .since) at) (part file (b .from) at) (part file (l .next) own) (partOf file (st .first)) day facts s v
-        → kept r after ≡ keep (fieldsFindings s n v 1 (length (fieldsOf (part file at (l .end))))) (kept count area))
-        → (s : Setting) → Looks today book q s → kept r after ≡ keep (fieldsFindings s n view 1 (length (fieldsOf (part file at (l .end))))) (kept count area)
-    line-judged n count r area after y s ls = y s view (told s ls)
+        → kept r after ≡ keep (fieldsFindings s n v 1 (length (fieldsOf (part file at (l .end))))) (kept howMany area))
+        → (s : Setting) → Looks today book q s → kept r after ≡ keep (fieldsFindings s n view 1 (length (fieldsOf (part file at (l .end))))) (kept howMany area)
+    line-judged n howMany r area after y s ls = y s view (told s ls)
 
 pub ruleset for-judge-line = (needs, next-in, end-in, head-from, head-in, head-start, parts-in, line-few, line-less, next-ended, line-judged)

@@ -6,7 +6,7 @@ use mathlib.Core.List.{List, [], _∷_, _++_, reverse, reverse-cons}
 use Prim.Native.Nat.{ℕ, suc, _+_}
 use native.Mathlib.Omega.{arith}
 use lib.Dec.{eqb}
-use Rattle.house.specs.Text.{any, all, count}
+use Rattle.house.specs.Text.{any, all, howMany}
 use Rattle.house.proofs.Members.{count-append}
 use Rattle.lines.specs.Records.{Rec, II, IE}
 use Rattle.rules_definitions.specs.Forms.{text, isSound, isGiven, isRelaxed}
@@ -42,11 +42,11 @@ pub all-reverse : {A : Type 0} (p : A → Bool) (xs : List A) → all p (reverse
 all-reverse p [] = refl
 all-reverse p (x ∷ xs) = rw (reverse-cons, all-snoc p (reverse xs) x, all-reverse p xs)
 
-pub count-reverse : {A : Type 0} (p : A → Bool) (xs : List A) → count p (reverse xs) ≡ count p xs
+pub count-reverse : {A : Type 0} (p : A → Bool) (xs : List A) → howMany p (reverse xs) ≡ howMany p xs
 count-reverse p [] = refl
 count-reverse p (x ∷ xs) = rw (reverse-cons, count-append p (reverse xs) (x ∷ []), count-reverse p xs) (go (p x))
   where
-    go : (b : Bool) → count p xs + cond b 1 0 ≡ cond b (suc (count p xs)) (count p xs)
+    go : (b : Bool) → howMany p xs + cond b 1 0 ≡ cond b (suc (howMany p xs)) (howMany p xs)
     go true = omega arith
     go false = omega arith
 
@@ -61,17 +61,17 @@ module _ (s : Setting) (v : Seen) where
   L = v .line
 
   module _ (k : v .line .kind ≡ II) where
-    pub nine-9 : rule9 s v 9 ≡ siteWrong (text L 9) (text L 10) && (isGiven II L 9 && isGiven II L 10)
+    pub rule9-ii9 : rule9 s v 9 ≡ siteWrong (text L 9) (text L 10) && (isGiven II L 9 && isGiven II L 10)
     unfolding rule9
-    nine-9 =
+    rule9-ii9 =
         ap
         (λ (n : ℕ).
         ((eqb n II && eqb 9 9 && siteWrong (text L 9) (text L 10)) || (eqb n II && eqb 9 10 && methodWrong (text L 9) (text L 10))) && (isGiven II L 9 && isGiven II L 10)) k
         ∙ or-false (siteWrong (text L 9) (text L 10)) (isGiven II L 9 && isGiven II L 10)
 
-    pub nine-10 : rule9 s v 10 ≡ methodWrong (text L 9) (text L 10) && (isGiven II L 9 && isGiven II L 10)
+    pub rule9-ii10 : rule9 s v 10 ≡ methodWrong (text L 9) (text L 10) && (isGiven II L 9 && isGiven II L 10)
     unfolding rule9
-    nine-10 = rw k
+    rule9-ii10 = rw k
 
     ten-at : (f : ℕ)
         → rule10 s v f
@@ -84,47 +84,47 @@ module _ (s : Setting) (v : Seen) where
         || ((eqb n II && eqb f 10 && lacks L 10 9) || ((eqb n II && eqb f 12 && lacks L 12 13) || (eqb n II && eqb f 13 && lacks L 13 12))))
         && isRelaxed L) k
 
-    pub ten-9 : rule10 s v 9 ≡ lacks L 9 10 && isRelaxed L
-    ten-9 = ten-at 9 ∙ or-false (lacks L 9 10) (isRelaxed L)
+    pub rule10-ii9 : rule10 s v 9 ≡ lacks L 9 10 && isRelaxed L
+    rule10-ii9 = ten-at 9 ∙ or-false (lacks L 9 10) (isRelaxed L)
 
-    pub ten-10 : rule10 s v 10 ≡ lacks L 10 9 && isRelaxed L
-    ten-10 = ten-at 10 ∙ or-false (lacks L 10 9) (isRelaxed L)
+    pub rule10-ii10 : rule10 s v 10 ≡ lacks L 10 9 && isRelaxed L
+    rule10-ii10 = ten-at 10 ∙ or-false (lacks L 10 9) (isRelaxed L)
 
-    pub ten-12 : rule10 s v 12 ≡ lacks L 12 13 && isRelaxed L
-    ten-12 = ten-at 12 ∙ or-false (lacks L 12 13) (isRelaxed L)
+    pub rule10-ii12 : rule10 s v 12 ≡ lacks L 12 13 && isRelaxed L
+    rule10-ii12 = ten-at 12 ∙ or-false (lacks L 12 13) (isRelaxed L)
 
-    pub ten-13 : rule10 s v 13 ≡ lacks L 13 12 && isRelaxed L
-    ten-13 = ten-at 13
+    pub rule10-ii13 : rule10 s v 13 ≡ lacks L 13 12 && isRelaxed L
+    rule10-ii13 = ten-at 13
 
-    pub eleven-ii : rule11 s v 11
+    pub rule11-ii11 : rule11 s v 11
         ≡ (isGiven II (v .head) 8 && s .known 1 (codeIn II (v .head) 8)) && (isGiven II L 11 && s .known 3 (codeIn II L 11))
         && (not (s .known 7 (pairIn v 11)) || (dayIsSound v && not (isInForce s v 7 (pairIn v 11))))
     unfolding rule11 isKnown bookKind pairKind
-    eleven-ii = rw k
+    rule11-ii11 = rw k
 
-    pub thirteen : rule13 s v 8 ≡ v .not-first && (countsSound (v .own) && (countsSound (v .first) && setsDiffer (v .own) (v .first)))
+    pub rule13-ii8 : rule13 s v 8 ≡ v .not-first && (countsSound (v .own) && (countsSound (v .first) && setsDiffer (v .own) (v .first)))
     unfolding rule13
-    thirteen = rw k
+    rule13-ii8 = rw k
 
-    pub fifteen : rule15 s v 8 ≡ v .repeated
+    pub rule15-ii8 : rule15 s v 8 ≡ v .repeated
     unfolding rule15
-    fifteen = rw k
+    rule15-ii8 = rw k
 
   module _ (k : v .line .kind ≡ IE) where
-    pub eleven-ie : rule11 s v 4
+    pub rule11-ie4 : rule11 s v 4
         ≡ (isGiven II (v .head) 8 && s .known 1 (codeIn II (v .head) 8)) && (isGiven IE L 4 && s .known 2 (codeIn IE L 4))
         && (not (s .known 8 (pairIn v 4)) || (dayIsSound v && not (isInForce s v 8 (pairIn v 4))))
     unfolding rule11 isKnown bookKind pairKind
-    eleven-ie = rw k
+    rule11-ie4 = rw k
 
-    pub twelve : rule12 s v 4 ≡ isSound IE L 4 && any (sameAntigen L) (v .antigens)
+    pub rule12-ie4 : rule12 s v 4 ≡ isSound IE L 4 && any (sameAntigen L) (v .antigens)
     unfolding rule12
-    twelve = rw k
+    rule12-ie4 = rw k
 
 -- the first II's IE lines backwards
 any-same : (l : Rec) (ps : List Rec) → any (sameCount l) (reverse ps) ≡ any (sameCount l) ps
 any-same l ps = any-reverse (sameCount l) ps
 
-pub sets-back : (own first : List Rec) → (countsSound first && setsDiffer own first) ≡ (countsSound (reverse first) && setsDiffer own (reverse first))
+pub rule13-sets-back : (own first : List Rec) → (countsSound first && setsDiffer own first) ≡ (countsSound (reverse first) && setsDiffer own (reverse first))
 unfolding setsDiffer allIn countsSound
-sets-back own first = simp (all-reverse, any-same)
+rule13-sets-back own first = simp (all-reverse, any-same)

@@ -9,7 +9,7 @@ use native.Mathlib.Omega.{arith}
 use borrow.Author.Tests.{eqb-true}
 use lib.Dec.{eqb}
 use lib.ListN.{length, take, drop}
-use Rattle.house.specs.Text.{Text, run, those, count, front, isEmpty, within, joined}
+use Rattle.house.specs.Text.{Text, run, those, howMany, front, isEmpty, within, joined}
 use Rattle.house.proofs.Small.{both, clash}
 use Rattle.lines_fields.specs.declared.LineAt.{LineAt}
 use Rattle.lines_fields.specs.Lines.{LineIs, linesOf, fieldsOf}
@@ -20,7 +20,7 @@ use Rattle.lines_fields.proofs.LineLaws.{at-past}
 use Rattle.lines.proofs.PartLaws.{recs-past, recs-on, ended-inside, whole-step}
 use Rattle.ledger.proofs.AmongLaws.{those-append}
 use Rattle.rules_definitions.specs.Forms.{fieldIn, table, isJudged, isOptional, isMissing, isSound}
-use Rattle.rules_definitions.specs.Places.{placesOf, placesIn, noRec, nearest, isNumbered}
+use Rattle.rules_definitions.specs.Contexts.{contextsOf, contextsIn, noRec, nearest, isNumbered}
 use Rattle.rules_definitions.specs.Blocks.{isInBlock, joins, nearestOf, blockIn, openAfter, hasSecond, firstOpen, beforeOpen}
 use Rattle.rules_definitions.specs.Seen.{Setting}
 use Rattle.rules_definitions.specs.Findings.{lineFindings, findingsOf}
@@ -31,7 +31,7 @@ use Rattle.rules_fields.specs.declared.Day.{Day}
 use Rattle.rules_forms.specs.TextLeaves.{valueOf}
 use Rattle.rules_plain.specs.PlainFields.{bornOf}
 use Rattle.rules.specs.Fields.{dayFrom}
-use Rattle.rules.specs.Walk.{span, linesBefore, SpanIs, LinesAre, Holds, noDay, startState, BlockIs, dayBy, nextPlace, nextOf, nextBorn, nextDay, nextKnown, nextSince, nextLast, nextRun, nextMany, nextFirst, nextIns, advanced, restOf}
+use Rattle.rules.specs.Walk.{span, linesBefore, SpanIs, LinesAre, Holds, noDay, startState, BlockIs, dayBy, nextPlace, nextOf, nextBorn, nextDay, nextKnown, nextSince, nextLast, nextRun, nextMany, nextFirst, nextNotImmunized, advanced, restOf}
 use Rattle.rules.proofs.WalkLaws.{no-recs, kind-is, back-step, recs-next, before-step, joins-open, inb-is, joined-is, from-is, block-is}
 
 -- PARTS
@@ -86,19 +86,19 @@ module _ (file : Text) (at : ℕ) (st : State) (h : Holds file at st) (q : LineA
   unfolding isNumbered recOf
   numbered-is = rw ki
 
-  place-step : nextPlace (st .place) k ≡ suc (count isNumbered (linesBefore file (q .next)))
+  place-step : nextPlace (st .place) k ≡ suc (howMany isNumbered (linesBefore file (q .next)))
   unfolding nextPlace
   place-step = rw (step, numbered-is, h .place-is) (go (within IP IA k))
     where
-      go : (t : Bool) → cond t (suc (count isNumbered before) + 1) (suc (count isNumbered before)) ≡ suc (cond t (suc (count isNumbered before)) (count isNumbered before))
+      go : (t : Bool) → cond t (suc (howMany isNumbered before) + 1) (suc (howMany isNumbered before)) ≡ suc (cond t (suc (howMany isNumbered before)) (howMany isNumbered before))
       go true = omega arith
       go false = refl
 
-  ins-step : nextIns (st .ins) k ≡ count (isKind IN) (linesBefore file (q .next))
-  unfolding nextIns
+  ins-step : nextNotImmunized (st .«not_immunized») k ≡ howMany (isKind IN) (linesBefore file (q .next))
+  unfolding nextNotImmunized
   ins-step = rw (step, kind-of IN, h .ins-is) (go (eqb k IN))
     where
-      go : (t : Bool) → cond t (count (isKind IN) before + 1) (count (isKind IN) before) ≡ cond t (suc (count (isKind IN) before)) (count (isKind IN) before)
+      go : (t : Bool) → cond t (howMany (isKind IN) before + 1) (howMany (isKind IN) before) ≡ cond t (suc (howMany (isKind IN) before)) (howMany (isKind IN) before)
       go true = omega arith
       go false = refl
 
@@ -273,7 +273,7 @@ module _ (file : Text) (at : ℕ) (st : State) (h : Holds file at st) (q : LineA
   grows false x y m = omega (arith, longer)
 
   pub holds-step : Holds file (q .next) (advanced st k (span at (q .end)) (q .next) b (nextKnown (st .known) k (part file at (q .end)) day))
-  unfolding advanced nextPlace nextIns nextKnown
+  unfolding advanced nextPlace nextNotImmunized nextKnown
   holds-step =
       record {
         ended = ended-step;
@@ -282,7 +282,7 @@ module _ (file : Text) (at : ℕ) (st : State) (h : Holds file at st) (q : LineA
         born-is = born-step;
         ii-is = near-step II (st .ii) (h .ii-is);
         ii-day-is = ii-day-step;
-        in-is = near-step IN (st .declined) (h .in-is);
+        in-is = near-step IN (st .refusal) (h .in-is);
         in-day-is = in-day-step;
         since-is = since-step;
         last-is = last-step;
@@ -296,7 +296,7 @@ module _ (file : Text) (at : ℕ) (st : State) (h : Holds file at st) (q : LineA
         ins-is = ins-step;
         n-small = omega (arith, h .n-small, longer);
         place-small = grows (within IP IA k) (st .place) 1 (h .place-small);
-        ins-small = omega (arith, grows (eqb k IN) (st .ins) 0 (omega (arith, h .ins-small)));
+        ins-small = omega (arith, grows (eqb k IN) (st .«not_immunized») 0 (omega (arith, h .ins-small)));
       }
 
 -- THE START
@@ -344,7 +344,7 @@ holds-start file =
 -- THE FINDINGS STILL TO COME
 
 pub rest-start : (s : Setting) (file : Text) → findingsOf s file ≡ restOf s file 0 1
-unfolding findingsOf placesIn placesOf restOf linesBefore recs linesOf
+unfolding findingsOf contextsIn contextsOf restOf linesBefore recs linesOf
 rest-start s file = refl
 
 pub rest-end : (s : Setting) (file : Text) (at n : ℕ) → length file ≤ at → restOf s file at n ≡ []

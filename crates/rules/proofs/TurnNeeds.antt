@@ -9,7 +9,7 @@ use native.Mathlib.Omega.{arith}
 use borrow.Author.Needs.{needs}
 use lib.ListN.{length, take, drop}
 use lib.Seq.{take-all}
-use Rattle.house.specs.Text.{Text, any, front, count}
+use Rattle.house.specs.Text.{Text, any, front, howMany}
 use Rattle.house.proofs.Facts.{of-true}
 use Rattle.lines_fields.specs.declared.LineAt.{LineAt}
 use Rattle.lines_fields.specs.Lines.{LineIs, lineOf, fieldsOf}
@@ -22,7 +22,7 @@ use Rattle.rules_definitions.specs.Blocks.{isInBlock, sameEvent, joins, nearest
 use Rattle.rules_definitions.specs.Seen.{Setting}
 use Rattle.rules_definitions.specs.Findings.{Finding, fieldsFindings, findingsOf, areaAfter}
 use Rattle.lines.specs.Events.{eventsAt, ascends}
-use Rattle.house.specs.Search.{halve}
+use Rattle.house.specs.Search.{binarySearch}
 use Rattle.rules_walk.specs.Firsts.{indexOf, foundBefore}
 use Rattle.rules_walk.proofs.FindLaws.{found-named}
 use Rattle.rules_walk.specs.Inside.{recAt}
@@ -87,7 +87,7 @@ module _ (file : Text) (at : ℕ) (st : State) (h : Holds file at st) (l : LineA
       (omega (arith, s), ap recOf (at-text file at l e) ∙ ap (λ (n : ℕ). recOf (lineOf (drop n file) .text)) (sym s), passed-upto file at (omega arith) w)
 
   repeated : (index : List ℕ) → Serves file index → isRepeated L (linesBefore file at) ≡ b .inb && foundBefore file index (eventOf L) (b .from)
-  unfolding Serves foundBefore halve
+  unfolding Serves foundBefore binarySearch
   repeated index (inl i) = named-in index i
   repeated index (inr (i, o)) = never o ∙ go (b .inb) (ap (λ (xs : List ℕ). foundBefore file xs (eventOf L) (b .from)) i)
     where
@@ -118,23 +118,23 @@ module _ (file : Text) (at : ℕ) (st : State) (h : Holds file at st) (l : LineA
         (part file (b .from) at) (front (isKind IE) (recs (drop (l .next) file))) (partOf file (st .first)) (b .inb) (b .joined) (b .inb && foundBefore file index (eventOf L) (b .from))
         (b .inb && foundIn ledger live (eventOf L)) (foundIn ledger live (eventOf L)) (masked (b .inb) (eventOf L)) n 1 m)
 
-    pub turn-is : (count c : ℕ) (area after : Text) (st2 : State)
+    pub turn-is : (howMany c : ℕ) (area after : Text) (st2 : State)
         → ((s : Setting) → Looks today book q s
-        → kept c after ≡ keep (fieldsFindings s (st .n) (seenWith file at st (part file at (l .end)) (headAt st k (span at (l .end))) (b .from) (front (isKind IE) (recs (drop (l .next) file))) facts) 1 (length (fieldsOf (part file at (l .end))))) (kept count area))
+        → kept c after ≡ keep (fieldsFindings s (st .n) (seenWith file at st (part file at (l .end)) (headAt st k (span at (l .end))) (b .from) (front (isKind IE) (recs (drop (l .next) file))) facts) 1 (length (fieldsOf (part file at (l .end))))) (kept howMany area))
         → c ≤ 3 * l .next → (day : Day) → day ≡ dayBy k (part file at (l .end)) (st .known) → (known : Known) → known ≡ nextKnown (st .known) k (part file at (l .end)) day
         → st2 ≡ advanced st k (span at (l .end)) (l .next) b known
-        → TurnIs (settingBy today book q (foundIn ledger live)) file at st count area (record { at = l .next; st = st2; count = c }) after
+        → TurnIs (settingBy today book q (foundIn ledger live)) file at st howMany area (record { at = l .next; st = st2; howMany = c }) after
     unfolding advanced
-    turn-is count c area after st2 y m day dy known kn z =
+    turn-is howMany c area after st2 y m day dy known kn z =
         record {
           holds = rw (z, kn) (holds-step file at st h l e less k ki b bi day dy);
           on = at-past file at l e less;
           upto = omega (arith, e .within);
           few = m;
-          left = rw z (turn-goes S file at st h l e less k ki b bi count c area after (y S looks ∙ ap (λ (xs : _). keep xs (kept count area)) (same-findings (st .n) (length (fieldsOf (part file at (l .end)))))));
+          left = rw z (turn-goes S file at st h l e less k ki b bi howMany c area after (y S looks ∙ ap (λ (xs : _). keep xs (kept howMany area)) (same-findings (st .n) (length (fieldsOf (part file at (l .end)))))));
         }
 
-pub turn-fits : (file : Text) (at : ℕ) (st : State) → Holds file at st → at < length file → length file ≤ 5000000 → (st .n + 1 < 2 ^ 64) × (st .place + 1 < 2 ^ 64) × (st .ins + 1 < 2 ^ 64)
+pub turn-fits : (file : Text) (at : ℕ) (st : State) → Holds file at st → at < length file → length file ≤ 5000000 → (st .n + 1 < 2 ^ 64) × (st .place + 1 < 2 ^ 64) × (st .«not_immunized» + 1 < 2 ^ 64)
 turn-fits file at st h l m = (omega (arith, h .n-small), omega (arith, h .place-small), omega (arith, h .ins-small))
 
 pub ruleset for-turn = (needs, ready, turn-is, turn-fits)
@@ -175,11 +175,11 @@ module _ (s : Setting) (file : Text) (area₀ : Text) where
       pub walk-area : area ≡ areaAfter area₀ (findingsOf s file)
       walk-area = ap (λ (k : Kept). k .area) all-kept
 
-      pub walk-ins : st .ins ≡ count (isKind IN) (recs file)
+      pub walk-ins : st .«not_immunized» ≡ howMany (isKind IN) (recs file)
       unfolding linesBefore
       walk-ins =
           w .holds .ins-is
-          ∙ ap (λ (t : Text). count (isKind IN) (reverse (recs t))) (take-all at file h)
+          ∙ ap (λ (t : Text). howMany (isKind IN) (reverse (recs t))) (take-all at file h)
           ∙ count-reverse (isKind IN) (recs file)
 
 pub walk-found : (today : ℕ) (file book : Text) (q : Sections) (ledger : Text) (n : ℕ) (k : ℕ) → k ≡ length (findingsOf (settingBy today book q (foundIn ledger n)) file)

@@ -27,11 +27,11 @@ use Rattle.rules_fields.specs.declared.Day.{Day}
 use Rattle.rules_fields.specs.declared.Facts.{Facts}
 use Rattle.rules.specs.Inside.{listed}
 use Rattle.rules_fields.specs.Look.{knownBy, forceBy}
-use Rattle.rules_fields.specs.Fields.{broken, codeLater, ledgerRule, codeBy, pairBy, lackBy, typeAt, vaccineAt, siteAt, methodAt, reasonAt, dosageAt, dosageTypeAt}
+use Rattle.rules_fields.specs.Fields.{broken, codeLater, rules16to18At, codeBy, rule11By, rule10By, ii4Type, ii8Vaccine, ii9Site, ii10Method, ii11Reason, ii12Dosage, ii13DosageType}
 use Rattle.rules.specs.Fields.{Shows, DayIs, Looks, Blocked}
 use Rattle.rules.proofs.Collapse.{ii-2, ii-3, ii-6, ii-8, ii-9, ii-10, ii-11, ii-12, ii-13, ii-14, ii-15, ii-rest}
-use Rattle.rules.proofs.AtLaws.{more-at, sound-at, code-more, code-two, site-two, ledger-at}
-use Rattle.rules.proofs.RuleLaws.{any-reverse, nine-9, nine-10, ten-9, ten-10, ten-12, ten-13, eleven-ii, thirteen, fifteen, sets-back}
+use Rattle.rules.proofs.AtLaws.{more-at, sound-at, code-more, code-two, site-two, rules16-to-18-ii4}
+use Rattle.rules.proofs.RuleLaws.{any-reverse, rule9-ii9, rule9-ii10, rule10-ii9, rule10-ii10, rule10-ii12, rule10-ii13, rule11-ii11, rule13-ii8, rule15-ii8, rule13-sets-back}
 use Rattle.rules.proofs.FieldNeeds.{codeOf, by-relaxed, by-either, low-same, mandatory, plain-relaxed, number-at, uli-at, date-at, code-need, code-read, code-is}
 use Rattle.rules.proofs.HeadNeeds.{pair-is, ruled, three-same}
 
@@ -89,7 +89,7 @@ module _ (line book : Text) (q : Sections) (day : Day) where
       go true z = sym z
       go false z = refl
 
-  reason-pair : (pair : ℕ) (head : Rec) → pairBy II l 11 3 (pad 2 read) pair head book q day ≡ pairBy II l 11 3 read pair head book q day
+  reason-pair : (pair : ℕ) (head : Rec) → rule11By II l 11 3 (pad 2 read) pair head book q day ≡ rule11By II l 11 3 read pair head book q day
   reason-pair pair head =
       given-only 11 (isGiven II head 8 && knownBy book q 1 (codeText 1 (text head 8) [])) (isGiven II l 11) _ _ _ _ (λ h. ap (λ (r : Text). knownBy book q 3 (codeText 3 r [])) (given-whole h))
       (λ h. ap (λ (r : Text). not (knownBy book q pair (codeText pair (text head 8) r)) || (day .sound && not (forceBy book q (day .number) pair (codeText pair (text head 8) r)))) (given-whole h))
@@ -132,52 +132,52 @@ module _ (line t ip block own first book : Text) (q : Sections) (place born : �
     low-ii f later =
         by-relaxed II line (fieldOf line f) f refl later R refl ∙ ap (λ (l : Rec). lowest II l f (later (text l f))) (sym (sh .line-is))
 
-    lack-ii : (f other : ℕ) → rule10 s v f ≡ (lacks (v .line) f other && isRelaxed (v .line)) → lackBy (recOf line) R (fieldOf line f) other ≡ cond (rule10 s v f) 10 0
+    lack-ii : (f other : ℕ) → rule10 s v f ≡ (lacks (v .line) f other && isRelaxed (v .line)) → rule10By (recOf line) R (fieldOf line f) other ≡ cond (rule10 s v f) 10 0
     lack-ii f other z =
         ap (λ (u : Bool). cond (u && R) 10 0) (lacks-of line (fieldOf line f) f other refl)
         ∙ ap (λ (l : Rec). cond (lacks l f other && isRelaxed l) 10 0) (sym (sh .line-is))
         ∙ ap (ruled 10) (sym z)
 
-    at-4 : listed (typeAt (fieldOf line 4) facts) ≡ brokenAt s v 4
-    unfolding typeAt
+    at-4 : listed (ii4Type (fieldOf line 4) facts) ≡ brokenAt s v 4
+    unfolding ii4Type
     at-4 =
         three-same _ _ _ _ _ _ (by-either II line (fieldOf line 4) 4 refl (λ (u : Text). 0) false refl)
-        (ap (λ (u : Text). ledgerRule (facts .inb) u (facts .live)) (sym (text-is line 4))) refl
-        ∙ sym (ledger-at s v kind-ii ∙ rw (sh .line-is, bl .inb-is, bl .live-is))
+        (ap (λ (u : Text). rules16to18At (facts .inb) u (facts .live)) (sym (text-is line 4))) refl
+        ∙ sym (rules16-to-18-ii4 s v kind-ii ∙ rw (sh .line-is, bl .inb-is, bl .live-is))
 
-    at-8 : listed (vaccineAt (fieldOf line 8) own first book q day facts) ≡ brokenAt s v 8
-    unfolding vaccineAt codeIn bookKind codeRead
+    at-8 : listed (ii8Vaccine (fieldOf line 8) own first book q day facts) ≡ brokenAt s v 8
+    unfolding ii8Vaccine codeIn bookKind codeRead
     at-8 =
         three-same _ _ _ _ _ _
         (by-either II line (fieldOf line 8) 8 refl (codeOf 1 (fieldOf line 8) book q day) false refl
         ∙ code-low 8 1 (fieldOf line 8) (ap (λ (u : Text). codeText 1 u []) (text-ii 8)))
         (ap (λ (u : Bool). cond u 13 0) (masked (facts .joined) (λ (os : List Rec). countsSound os && (countsSound (recs first) && setsDiffer os (recs first))) (recs own) (v .own) (bl .own-is))
-        ∙ rw (sets-back (v .own) (recs first), thirteen s v kind-ii, bl .joined-is, bl .first-is))
-        (rw (fifteen s v kind-ii, bl .repeated-is))
+        ∙ rw (rule13-sets-back (v .own) (recs first), rule13-ii8 s v kind-ii, bl .joined-is, bl .first-is))
+        (rw (rule15-ii8 s v kind-ii, bl .repeated-is))
         ∙ sym (code-two s v II 8 kind-ii (known 8 1) (out 8 1) (rule13 s v 8) (rule15 s v 8) 13 15 refl refl (ii-8 s v kind-ii))
 
     site-ii : _≡_ {A = ℕ} (cond (siteWrong (fieldOf line 9) (text (recOf line) 10) && (isGiven II (recOf line) 9 && isGiven II (recOf line) 10)) 9 0) (cond (rule9 s v 9) 9 0)
     site-ii =
         ap (λ (u : Text). cond (siteWrong u (text (recOf line) 10) && (isGiven II (recOf line) 9 && isGiven II (recOf line) 10)) 9 0) (sym (text-is line 9))
         ∙ ap (λ (l : Rec). cond (siteWrong (text l 9) (text l 10) && (isGiven II l 9 && isGiven II l 10)) 9 0) (sym (sh .line-is))
-        ∙ ap (ruled 9) (sym (nine-9 s v kind-ii))
+        ∙ ap (ruled 9) (sym (rule9-ii9 s v kind-ii))
 
-    at-9 : listed (siteAt (recOf line) R (fieldOf line 9)) ≡ brokenAt s v 9
-    unfolding siteAt
+    at-9 : listed (ii9Site (recOf line) R (fieldOf line 9)) ≡ brokenAt s v 9
+    unfolding ii9Site
     at-9 =
-        three-same _ _ _ _ _ _ (low-ii 9 (λ (u : Text). codeLater (isEmpty u) (isSite u) false)) site-ii (lack-ii 9 10 (ten-9 s v kind-ii))
+        three-same _ _ _ _ _ _ (low-ii 9 (λ (u : Text). codeLater (isEmpty u) (isSite u) false)) site-ii (lack-ii 9 10 (rule10-ii9 s v kind-ii))
         ∙ sym (site-two s v 9 kind-ii (isSite (text (v .line) 9)) (rule9 s v 9) (rule10 s v 9) 9 10 refl refl (ii-9 s v kind-ii))
 
     method-ii : _≡_ {A = ℕ} (cond (methodWrong (text (recOf line) 9) (fieldOf line 10) && (isGiven II (recOf line) 9 && isGiven II (recOf line) 10)) 9 0) (cond (rule9 s v 10) 9 0)
     method-ii =
         ap (λ (u : Text). cond (methodWrong (text (recOf line) 9) u && (isGiven II (recOf line) 9 && isGiven II (recOf line) 10)) 9 0) (sym (text-is line 10))
         ∙ ap (λ (l : Rec). cond (methodWrong (text l 9) (text l 10) && (isGiven II l 9 && isGiven II l 10)) 9 0) (sym (sh .line-is))
-        ∙ ap (ruled 9) (sym (nine-10 s v kind-ii))
+        ∙ ap (ruled 9) (sym (rule9-ii10 s v kind-ii))
 
-    at-10 : listed (methodAt (recOf line) R (fieldOf line 10)) ≡ brokenAt s v 10
-    unfolding methodAt
+    at-10 : listed (ii10Method (recOf line) R (fieldOf line 10)) ≡ brokenAt s v 10
+    unfolding ii10Method
     at-10 =
-        three-same _ _ _ _ _ _ (low-ii 10 (λ (u : Text). codeLater (isEmpty u) (isMethod u) false)) method-ii (lack-ii 10 9 (ten-10 s v kind-ii))
+        three-same _ _ _ _ _ _ (low-ii 10 (λ (u : Text). codeLater (isEmpty u) (isMethod u) false)) method-ii (lack-ii 10 9 (rule10-ii10 s v kind-ii))
         ∙ sym (site-two s v 10 kind-ii (isMethod (text (v .line) 10)) (rule9 s v 10) (rule10 s v 10) 9 10 refl refl (ii-10 s v kind-ii))
 
     code-11 : codeIn II (v .line) 11 ≡ codeText 3 (reasonRead (fieldOf line 11)) []
@@ -191,8 +191,8 @@ module _ (line t ip block own first book : Text) (q : Sections) (place born : �
         ∙ ap (λ (h : Rec). codeText 7 (text h 8) (reasonRead (text (v .line) 11))) (bl .head-is)
         ∙ ap (λ (u : Text). codeText 7 (text (recOf line) 8) (reasonRead u)) (text-ii 11)
 
-    at-11 : listed (reasonAt (recOf line) R (fieldOf line 11) book q day) ≡ brokenAt s v 11
-    unfolding reasonAt
+    at-11 : listed (ii11Reason (recOf line) R (fieldOf line 11) book q day) ≡ brokenAt s v 11
+    unfolding ii11Reason
     at-11 =
         three-same _ _ _ _ _ _
         (by-relaxed II line (fieldOf line 11) 11 refl (codeOf 3 (pad 2 (reasonRead (fieldOf line 11))) book q day) R refl
@@ -200,20 +200,20 @@ module _ (line t ip block own first book : Text) (q : Sections) (place born : �
         ∙ code-low 11 3 (reasonRead (fieldOf line 11)) code-11)
         (reason-pair line book q day 7 (recOf line)
         ∙ pair-is s v today book q day ls d line line (reasonRead (fieldOf line 11)) (sh .line-is) (bl .head-is) II 11 3 7 code-11 pair-11
-        ∙ sym (ap (ruled 11) (eleven-ii s v kind-ii)))
+        ∙ sym (ap (ruled 11) (rule11-ii11 s v kind-ii)))
         refl
         ∙ sym (code-more s v II 11 kind-ii (known 11 3) (out 11 3) (rule11 s v 11) 11 refl (ii-11 s v kind-ii))
 
-    at-12 : listed (dosageAt (recOf line) R (fieldOf line 12)) ≡ brokenAt s v 12
-    unfolding dosageAt
+    at-12 : listed (ii12Dosage (recOf line) R (fieldOf line 12)) ≡ brokenAt s v 12
+    unfolding ii12Dosage
     at-12 =
-        three-same _ _ _ _ _ _ (low-ii 12 (λ (u : Text). 0)) (lack-ii 12 13 (ten-12 s v kind-ii)) refl
+        three-same _ _ _ _ _ _ (low-ii 12 (λ (u : Text). 0)) (lack-ii 12 13 (rule10-ii12 s v kind-ii)) refl
         ∙ sym (more-at s v II 12 kind-ii (rule10 s v 12) 10 refl (ii-12 s v kind-ii))
 
-    at-13 : listed (dosageTypeAt (recOf line) R (fieldOf line 13) book q day) ≡ brokenAt s v 13
-    unfolding dosageTypeAt codeIn bookKind codeRead
+    at-13 : listed (ii13DosageType (recOf line) R (fieldOf line 13) book q day) ≡ brokenAt s v 13
+    unfolding ii13DosageType codeIn bookKind codeRead
     at-13 =
-        three-same _ _ _ _ _ _ (code-ii 13 5 (fieldOf line 13) (ap (λ (u : Text). codeText 5 u []) (text-ii 13))) (lack-ii 13 12 (ten-13 s v kind-ii)) refl
+        three-same _ _ _ _ _ _ (code-ii 13 5 (fieldOf line 13) (ap (λ (u : Text). codeText 5 u []) (text-ii 13))) (lack-ii 13 12 (rule10-ii13 s v kind-ii)) refl
         ∙ sym (code-more s v II 13 kind-ii (known 13 5) (out 13 5) (rule10 s v 13) 10 refl (ii-13 s v kind-ii))
 
     at-15 : listed (broken (lowestIn II R 15 (fieldOf line 15) (lotLater (fieldOf line 15) (recs block))) 0 0) ≡ brokenAt s v 15
@@ -275,25 +275,25 @@ module _ (line t ip block own first book : Text) (q : Sections) (place born : �
           rw (h, p)
           (ap (λ (u : Text). listed (of x u)) (at n h) ∙ ap (λ (r : Bool). listed (of r (fieldOf line n))) rx ∙ z)
 
-    pub need-ii-4 : f ≡ 4 → b ≡ typeAt t facts → Right
-    need-ii-4 h p s v ls sh d bl = by-text 4 h (λ (r : Bool) (u : Text). typeAt u facts) p s v (at-4 s v ls sh d bl)
+    pub need-ii-4 : f ≡ 4 → b ≡ ii4Type t facts → Right
+    need-ii-4 h p s v ls sh d bl = by-text 4 h (λ (r : Bool) (u : Text). ii4Type u facts) p s v (at-4 s v ls sh d bl)
 
-    pub need-ii-8 : f ≡ 8 → b ≡ vaccineAt t own first book q day facts → Right
-    need-ii-8 h p s v ls sh d bl = by-text 8 h (λ (r : Bool) (u : Text). vaccineAt u own first book q day facts) p s v (at-8 s v ls sh d bl)
+    pub need-ii-8 : f ≡ 8 → b ≡ ii8Vaccine t own first book q day facts → Right
+    need-ii-8 h p s v ls sh d bl = by-text 8 h (λ (r : Bool) (u : Text). ii8Vaccine u own first book q day facts) p s v (at-8 s v ls sh d bl)
 
-    pub need-ii-9 : f ≡ 9 → b ≡ siteAt (recOf line) x t → Right
-    need-ii-9 h p s v ls sh d bl = by-text 9 h (siteAt (recOf line)) p s v (at-9 s v ls sh d bl)
+    pub need-ii-9 : f ≡ 9 → b ≡ ii9Site (recOf line) x t → Right
+    need-ii-9 h p s v ls sh d bl = by-text 9 h (ii9Site (recOf line)) p s v (at-9 s v ls sh d bl)
 
-    pub need-ii-10 : f ≡ 10 → b ≡ methodAt (recOf line) x t → Right
-    need-ii-10 h p s v ls sh d bl = by-text 10 h (methodAt (recOf line)) p s v (at-10 s v ls sh d bl)
+    pub need-ii-10 : f ≡ 10 → b ≡ ii10Method (recOf line) x t → Right
+    need-ii-10 h p s v ls sh d bl = by-text 10 h (ii10Method (recOf line)) p s v (at-10 s v ls sh d bl)
 
-    pub need-ii-11 : f ≡ 11 → b ≡ reasonAt (recOf line) x t book q day → Right
-    need-ii-11 h p s v ls sh d bl = by-text 11 h (λ (r : Bool) (u : Text). reasonAt (recOf line) r u book q day) p s v (at-11 s v ls sh d bl)
+    pub need-ii-11 : f ≡ 11 → b ≡ ii11Reason (recOf line) x t book q day → Right
+    need-ii-11 h p s v ls sh d bl = by-text 11 h (λ (r : Bool) (u : Text). ii11Reason (recOf line) r u book q day) p s v (at-11 s v ls sh d bl)
 
-    pub need-ii-12 : f ≡ 12 → b ≡ dosageAt (recOf line) x t → Right
-    need-ii-12 h p s v ls sh d bl = by-text 12 h (dosageAt (recOf line)) p s v (at-12 s v ls sh d bl)
+    pub need-ii-12 : f ≡ 12 → b ≡ ii12Dosage (recOf line) x t → Right
+    need-ii-12 h p s v ls sh d bl = by-text 12 h (ii12Dosage (recOf line)) p s v (at-12 s v ls sh d bl)
 
-    pub need-ii-13 : f ≡ 13 → b ≡ dosageTypeAt (recOf line) x t book q day → Right
-    need-ii-13 h p s v ls sh d bl = by-text 13 h (λ (r : Bool) (u : Text). dosageTypeAt (recOf line) r u book q day) p s v (at-13 s v ls sh d bl)
+    pub need-ii-13 : f ≡ 13 → b ≡ ii13DosageType (recOf line) x t book q day → Right
+    need-ii-13 h p s v ls sh d bl = by-text 13 h (λ (r : Bool) (u : Text). ii13DosageType (recOf line) r u book q day) p s v (at-13 s v ls sh d bl)
 
 pub ruleset for-judge-ii = (needs, need-ii-2, need-ii-3, need-ii-4, need-ii-6, need-ii-8, need-ii-9, need-ii-10, need-ii-11, need-ii-12, need-ii-13, need-ii-14, need-ii-15, need-ii-rest)

@@ -21,7 +21,7 @@ use Rattle.lines_fields.specs.Inside.{part}
 use Rattle.lines_fields.proofs.CutLaws.{part-empty, part-start, part-split}
 use Rattle.lines.proofs.PartLaws.{recs-append, recs-past, recs-on, part-whole, ended-inside, recs-step}
 use Rattle.rules_definitions.specs.Forms.{fieldIn, text}
-use Rattle.rules_definitions.specs.Places.{noRec, nearest, headOf}
+use Rattle.rules_definitions.specs.Contexts.{noRec, nearest, headOf}
 use Rattle.rules_definitions.specs.Blocks.{isInBlock, sameEvent, joins, eventOf, nearestOf, blockIn, openAfter, beforeOpen, beforeBlock, isRepeated}
 use Rattle.rules_definitions.specs.Seen.{Setting, seenAt}
 use Rattle.rules_definitions.proofs.BlockLaws.{named}
@@ -130,7 +130,7 @@ module _ (file : Text) (at : ℕ) (st : State) (h : Holds file at st) (line : Te
   unfolding headOf headAt
   head-is k here e p = rw (kind-is line k IE e, kind-is line k IA e) (go (eqb k IE) (eqb k IA))
     where
-      go : (t u : Bool) → cond t (nearest II before) (cond u (nearest IN before) L) ≡ recOf (partOf file (cond t (st .ii) (cond u (st .declined) here)))
+      go : (t u : Bool) → cond t (nearest II before) (cond u (nearest IN before) L) ≡ recOf (partOf file (cond t (st .ii) (cond u (st .refusal) here)))
       go true u = h .ii-is .is
       go false true = h .in-is .is
       go false false = ap recOf (sym p)

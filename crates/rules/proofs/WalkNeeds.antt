@@ -23,7 +23,7 @@ use Rattle.rules.specs.declared.State.{State}
 use Rattle.rules.specs.declared.BlockAt.{BlockAt}
 use Rattle.rules_fields.specs.declared.Day.{Day}
 use Rattle.rules_plain.specs.PlainFields.{bornOf}
-use Rattle.rules.specs.Walk.{partOf, span, blockAt, headAt, nextPlace, nextOf, nextBorn, nextDay, nextKnown, nextSince, nextLast, nextRun, nextMany, nextFirst, nextIns, advanced}
+use Rattle.rules.specs.Walk.{partOf, span, blockAt, headAt, nextPlace, nextOf, nextBorn, nextDay, nextKnown, nextSince, nextLast, nextRun, nextMany, nextFirst, nextNotImmunized, advanced}
 use Rattle.rules.proofs.WalkLaws.{no-recs, kind-is, recs-next}
 
 -- next_place
@@ -50,12 +50,12 @@ module _ (k : ℕ) where
   unfolding nextOf
   near-same j p here h = simp (ne-eqb _ _ h)
 
-  pub ins-more : (i : ℕ) → k ≡ IN → i + 1 ≡ nextIns i k
-  unfolding nextIns
+  pub ins-more : (i : ℕ) → k ≡ IN → i + 1 ≡ nextNotImmunized i k
+  unfolding nextNotImmunized
   ins-more i h = simp (eq-eqb _ _ h)
 
-  pub ins-same : (i : ℕ) → (k ≡ IN → ⊥) → i ≡ nextIns i k
-  unfolding nextIns
+  pub ins-same : (i : ℕ) → (k ≡ IN → ⊥) → i ≡ nextNotImmunized i k
+  unfolding nextNotImmunized
   ins-same i h = simp (ne-eqb _ _ h)
 
   module _ (h : k ≡ IE) where
@@ -120,7 +120,7 @@ module _ (k : ℕ) where
     unfolding nextFirst
     first-new first many joined next m = simp (ne-eqb _ _ h, m)
 
-    pub head-in : (st : State) (here : Span) → k ≡ IA → st .declined ≡ headAt st k here
+    pub head-in : (st : State) (here : Span) → k ≡ IA → st .refusal ≡ headAt st k here
     unfolding headAt
     head-in st here m = simp (ne-eqb _ _ h, eq-eqb _ _ m)
 
@@ -185,14 +185,14 @@ known-is was k line day b x y e1 e2 e3 = rw (e1, e2, e3)
 pub ruleset for-next-known = (needs, known-is)
 
 -- advance
-pub advance-is : (st : State) (k : ℕ) (here : Span) (next : ℕ) (b : BlockAt) (known : Known) (p s r i : ℕ) (ip ii declined last first : Span) (many : Bool)
-    → p ≡ nextPlace (st .place) k → ip ≡ nextOf 3 (st .ip) k here → ii ≡ nextOf 4 (st .ii) k here → declined ≡ nextOf 6 (st .declined) k here
+pub advance-is : (st : State) (k : ℕ) (here : Span) (next : ℕ) (b : BlockAt) (known : Known) (p s r i : ℕ) (ip ii refusal last first : Span) (many : Bool)
+    → p ≡ nextPlace (st .place) k → ip ≡ nextOf 3 (st .ip) k here → ii ≡ nextOf 4 (st .ii) k here → refusal ≡ nextOf 6 (st .refusal) k here
     → s ≡ nextSince (st .since) k next → last ≡ nextLast (st .last) k (b .inb) here → r ≡ nextRun (st .run) k (b .inb) (b .from) next
-    → many ≡ nextMany (st .many) k (b .joined) → first ≡ nextFirst (st .first) (st .many) k (b .joined) next → i ≡ nextIns (st .ins) k
-    → record { n = st .n + 1; place = p; ip = ip; ii = ii; declined = declined; known = known; since = s; last = last; run = r; many = many; first = first; ins = i }
+    → many ≡ nextMany (st .many) k (b .joined) → first ≡ nextFirst (st .first) (st .many) k (b .joined) next → i ≡ nextNotImmunized (st .«not_immunized») k
+    → record { n = st .n + 1; place = p; ip = ip; ii = ii; refusal = refusal; known = known; since = s; last = last; run = r; many = many; first = first; «not_immunized» = i }
     ≡ advanced st k here next b known
 unfolding advanced
-advance-is st k here next b known p s r i ip ii declined last first many e1 e2 e3 e4 e5 e6 e7 e8 e9 e10 = rw (e1, e2, e3, e4, e5, e6, e7, e8, e9, e10)
+advance-is st k here next b known p s r i ip ii refusal last first many e1 e2 e3 e4 e5 e6 e7 e8 e9 e10 = rw (e1, e2, e3, e4, e5, e6, e7, e8, e9, e10)
 
 pub ruleset for-advance = (needs, advance-is)
 

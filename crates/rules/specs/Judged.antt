@@ -4,7 +4,7 @@ use Prim.Native.Nat.{ℕ}
 use mathlib.Core.Bool.{cond}
 use mathlib.Core.List.{List}
 use lib.ListN.{length}
-use Rattle.house.specs.Text.{Text, count}
+use Rattle.house.specs.Text.{Text, howMany}
 use Rattle.lines.specs.Records.{IN, isKind, recs}
 use Rattle.book.specs.declared.Sections.{Sections}
 use Rattle.ledger.specs.Ledger.{foundIn}
@@ -21,7 +21,7 @@ findingsBy today file book q ledger n = findingsOf (settingBy today book q (foun
 -- the answer, in a room of so many places
 unfoldable pub judgedOf : ℕ → Text → Text → Sections → Text → ℕ → ℕ → Judged
 judgedOf today file book q ledger n room =
-    cond (canBuild file room) (Done (length (firstsOf file)) (length (findingsBy today file book q ledger n)) (count (isKind IN) (recs file))) TooMany
+    cond (canBuild file room) (Done (length (firstsOf file)) (length (findingsBy today file book q ledger n)) (howMany (isKind IN) (recs file))) TooMany
 
 -- the findings area after; as it was where the room does not do
 unfoldable pub judgedArea : ℕ → Text → Text → Sections → Text → ℕ → ℕ → Text → Text

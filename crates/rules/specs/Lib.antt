@@ -8,7 +8,7 @@ pub mod Look
 pub mod Fields
 -- Of the crates below: what the rules, blocks and findings are, and the index of blocks
 pub use Rattle.rules_definitions.specs.Forms
-pub use Rattle.rules_definitions.specs.Places
+pub use Rattle.rules_definitions.specs.Contexts
 pub use Rattle.rules_definitions.specs.Blocks
 pub use Rattle.rules_definitions.specs.Seen
 pub use Rattle.rules_definitions.specs.Codes

@@ -7,7 +7,7 @@ use mathlib.Core.Logic.{_⊎_}
 use mathlib.Core.List.{List, [], reverse}
 use lib.ListN.{length, take, drop}
 use lib.Dec.{eqb}
-use Rattle.house.specs.Text.{Text, those, count, front, isEmpty, within, joined}
+use Rattle.house.specs.Text.{Text, those, howMany, front, isEmpty, within, joined}
 use Rattle.lines_fields.specs.declared.LineAt.{LineAt}
 use Rattle.lines_fields.specs.Lines.{LineIs}
 use Rattle.lines.specs.Records.{Rec, IP, II, IE, IN, IA, isKind, recordOf, recOf, recs}
@@ -16,7 +16,7 @@ use Rattle.lines_fields.specs.Inside.{part}
 use Rattle.ledger.specs.Ledger.{foundIn}
 use Rattle.lines.specs.Events.{eventsAt, ascends}
 use Rattle.rules_walk.specs.Firsts.{indexOf, foundBefore}
-use Rattle.rules_definitions.specs.Places.{placesFrom, nearest, isNumbered}
+use Rattle.rules_definitions.specs.Contexts.{contextsFrom, nearest, isNumbered}
 use Rattle.rules_definitions.specs.Blocks.{isInBlock, joins, eventOf, nearestOf, openAfter, hasSecond, firstOpen, beforeOpen}
 use Rattle.rules_definitions.specs.Seen.{Setting, Seen}
 use Rattle.rules_definitions.specs.Findings.{Finding, lineFindings}
@@ -57,12 +57,12 @@ pub record LinesAre (file : Text) (at : ℕ) (p : Span) (ls : List Rec) : Type 0
 pub record Holds (file : Text) (at : ℕ) (st : State) : Type 0 where
   -- but for a last line, which may have none, each line has its LF
   pub ended : at < length file → whole (take at file) ≡ true
-  pub place-is : st .place ≡ suc (count isNumbered (linesBefore file at))
+  pub place-is : st .place ≡ suc (howMany isNumbered (linesBefore file at))
   pub ip-is : SpanIs file at (st .ip) (nearest IP (linesBefore file at))
   pub born-is : st .known .born ≡ bornOf (nearest IP (linesBefore file at))
   pub ii-is : SpanIs file at (st .ii) (nearest II (linesBefore file at))
   pub ii-day-is : st .known .«ii_day» ≡ dayFrom II (nearest II (linesBefore file at)) 6
-  pub in-is : SpanIs file at (st .declined) (nearest IN (linesBefore file at))
+  pub in-is : SpanIs file at (st .refusal) (nearest IN (linesBefore file at))
   pub in-day-is : st .known .«in_day» ≡ dayFrom IN (nearest IN (linesBefore file at)) 5
   pub since-is : LinesAre file at (span (st .since) at) (front (isKind IE) (linesBefore file at))
   pub last-is : SpanIs file at (st .last) (nearestOf (openAfter (linesBefore file at)))
@@ -73,10 +73,10 @@ pub record Holds (file : Text) (at : ℕ) (st : State) : Type 0 where
   pub many-is : st .many ≡ hasSecond (linesBefore file at)
   pub first-is : LinesAre file at (st .first) (firstOpen (linesBefore file at))
   pub first-at : st .many ≡ false → st .first .end ≡ at
-  pub ins-is : st .ins ≡ count (isKind IN) (linesBefore file at)
+  pub ins-is : st .«not_immunized» ≡ howMany (isKind IN) (linesBefore file at)
   pub n-small : st .n ≤ at + 1
   pub place-small : st .place ≤ at + 1
-  pub ins-small : st .ins ≤ at
+  pub ins-small : st .«not_immunized» ≤ at
 
 -- of a line that is not there
 abbrev pub noDay : Day
@@ -89,14 +89,14 @@ startState =
       place = 1;
       ip = span 0 0;
       ii = span 0 0;
-      declined = span 0 0;
+      refusal = span 0 0;
       known = record { born = 0; «ii_day» = noDay; «in_day» = noDay };
       since = 0;
       last = span 0 0;
       run = 0;
       many = false;
       first = span 0 0;
-      ins = 0;
+      «not_immunized» = 0;
     }
 
 -- whether a line is in a block, whether it joins the open one, and where its block starts
@@ -156,7 +156,7 @@ pub record PartsIn (file : Text) (at : ℕ) (l : LineAt) (st : State) (from : �
 
 -- the record that a line of kind k belongs to
 unfoldable pub headAt : State → ℕ → Span → Span
-headAt st k here = cond (eqb k IE) (st .ii) (cond (eqb k IA) (st .declined) here)
+headAt st k here = cond (eqb k IE) (st .ii) (cond (eqb k IA) (st .refusal) here)
 
 -- the day of that record, by the line and what is known
 unfoldable pub dayBy : ℕ → Text → Known → Day
@@ -242,8 +242,8 @@ nextMany many k joined = cond (eqb k IE) many joined
 unfoldable pub nextFirst : Span → Bool → ℕ → Bool → ℕ → Span
 nextFirst first many k joined next = cond (eqb k IE) (cond many first (span (first .start) next)) (cond joined first (span next next))
 
-unfoldable pub nextIns : ℕ → ℕ → ℕ
-nextIns ins k = cond (eqb k IN) (ins + 1) ins
+unfoldable pub nextNotImmunized : ℕ → ℕ → ℕ
+nextNotImmunized n k = cond (eqb k IN) (n + 1) n
 
 unfoldable pub advanced : State → ℕ → Span → ℕ → BlockAt → Known → State
 advanced st k here next b known =
@@ -252,24 +252,24 @@ advanced st k here next b known =
       place = nextPlace (st .place) k;
       ip = nextOf IP (st .ip) k here;
       ii = nextOf II (st .ii) k here;
-      declined = nextOf IN (st .declined) k here;
+      refusal = nextOf IN (st .refusal) k here;
       known = known;
       since = nextSince (st .since) k next;
       last = nextLast (st .last) k (b .inb) here;
       run = nextRun (st .run) k (b .inb) (b .from) next;
       many = nextMany (st .many) k (b .joined);
       first = nextFirst (st .first) (st .many) k (b .joined) next;
-      ins = nextIns (st .ins) k;
+      «not_immunized» = nextNotImmunized (st .«not_immunized») k;
     }
 
 -- the findings of the lines from a position on, the first of them line n
 unfoldable pub restOf : Setting → Text → ℕ → ℕ → List Finding
-restOf s file at n = joined (lineFindings s) (placesFrom n (linesBefore file at) (recs (drop at file)))
+restOf s file at n = joined (lineFindings s) (contextsFrom n (linesBefore file at) (recs (drop at file)))
 
 -- one turn of the walk: a line's findings are put to the others, and those from the next line on are left
-pub record TurnIs (s : Setting) (file : Text) (at : ℕ) (st : State) (count : ℕ) (area : Text) (r : Turn) (after : Text) : Type 0 where
+pub record TurnIs (s : Setting) (file : Text) (at : ℕ) (st : State) (howMany : ℕ) (area : Text) (r : Turn) (after : Text) : Type 0 where
   pub holds : Holds file (r .at) (r .st)
   pub on : at < r .at
   pub upto : r .at ≤ length file
   pub few : r .count ≤ 3 * r .at
-  pub left : keep (restOf s file at (st .n)) (kept count area) ≡ keep (restOf s file (r .at) (r .st .n)) (kept (r .count) after)
+  pub left : keep (restOf s file at (st .n)) (kept howMany area) ≡ keep (restOf s file (r .at) (r .st .n)) (kept (r .count) after)

@@ -30,7 +30,7 @@ pub(crate) fn judge_plain(k: u8, line: &[u8], f: usize, t: &[u8]) -> Broken
     requires { ⌜ (k ≡ 4 → ⊥) ⌝ }
     ensures { λ r. ⌜ ((s : Setting) (v : Seen) → v .line ≡ recOf (now (line .entry)) → laterAt s v f ≡ [] → listed r ≡ brokenAt s v f) ⌝ }
 {
-    one(rules_forms::basic_rule(k, false, f, t))
+    one(rules_forms::rules1_and_2(k, false, f, t))
 }
 
 // Field f of an IV.
@@ -40,8 +40,8 @@ pub(crate) fn judge_iv(line: &[u8], f: usize, t: &[u8]) -> Broken
     ensures { λ r. ⌜ ((s : Setting) (v : Seen) → v .line ≡ recOf (now (line .entry)) → listed r ≡ brokenAt s v f) ⌝ }
 {
     match f {
-        2 => one(rules_plain::version_rule(t)),
-        _ => one(rules_forms::basic_rule(IV, false, f, t)),
+        2 => one(rules_plain::iv2_version(t)),
+        _ => one(rules_forms::rules1_and_2(IV, false, f, t)),
     }
 }
 
@@ -52,9 +52,9 @@ pub(crate) fn judge_ip(line: &[u8], place: usize, today: u32, f: usize, t: &[u8]
     ensures { λ r. ⌜ ((s : Setting) (v : Seen) → v .line ≡ recOf (now (line .entry)) → v .place ≡ place → s .today ≡ today → listed r ≡ brokenAt s v f) ⌝ }
 {
     match f {
-        2 => one(rules_plain::number_rule(IP, t, place)),
-        25 => one(rules_plain::day_rule(t, today)),
-        _ => one(rules_forms::basic_rule(IP, false, f, t)),
+        2 => one(rules_plain::field2_number(IP, t, place)),
+        25 => one(rules_plain::ip25_birth(t, today)),
+        _ => one(rules_forms::rules1_and_2(IP, false, f, t)),
     }
 }
 
@@ -76,11 +76,11 @@ pub(crate) fn judge_in(
     ensures { λ r. ⌜ ((s : Setting) (v : Seen) → Looks today (now (book .entry)) q s → Shows place born (now (line .entry)) (now (ip .entry)) v → DayIs day v → listed r ≡ brokenAt s v f) ⌝ }
 {
     match f {
-        2 => one(rules_plain::number_rule(IN, t, place)),
-        3 => one(rules_plain::uli_rule(IN, t, ip)),
-        5 => one(rules_plain::date_rule(IN, 5, t, today, born)),
-        6 => one(rules_fields::code_rule(IN, false, 6, t, 6, t, book, q, day)),
-        _ => one(rules_forms::basic_rule(IN, false, f, t)),
+        2 => one(rules_plain::field2_number(IN, t, place)),
+        3 => one(rules_plain::field3_uli(IN, t, ip)),
+        5 => one(rules_plain::ii6_in5_date(IN, 5, t, today, born)),
+        6 => one(rules_fields::code_field(IN, false, 6, t, 6, t, book, q, day)),
+        _ => one(rules_forms::rules1_and_2(IN, false, f, t)),
     }
 }
 
@@ -102,10 +102,10 @@ pub(crate) fn judge_ia(
     ensures { λ r. ⌜ ((s : Setting) (v : Seen) → Looks today (now (book .entry)) q s → Shows place born (now (line .entry)) (now (ip .entry)) v → DayIs day v → listed r ≡ brokenAt s v f) ⌝ }
 {
     match f {
-        2 => one(rules_plain::number_rule(IA, t, place)),
-        3 => one(rules_plain::uli_rule(IA, t, ip)),
-        4 => one(rules_fields::code_rule(IA, false, 4, t, 2, t, book, q, day)),
-        _ => one(rules_forms::basic_rule(IA, false, f, t)),
+        2 => one(rules_plain::field2_number(IA, t, place)),
+        3 => one(rules_plain::field3_uli(IA, t, ip)),
+        4 => one(rules_fields::code_field(IA, false, 4, t, 2, t, book, q, day)),
+        _ => one(rules_forms::rules1_and_2(IA, false, f, t)),
     }
 }
 
@@ -129,9 +129,9 @@ pub(crate) fn judge_ie(
     ensures { λ r. ⌜ ((s : Setting) (v : Seen) → Looks today (now (book .entry)) q s → Shows place born (now (line .entry)) (now (ip .entry)) v → DayIs day v → v .head ≡ recOf (now (head .entry)) → v .antigens ≡ reverse (recs (now (since .entry))) → listed r ≡ brokenAt s v f) ⌝ }
 {
     match f {
-        2 => one(rules_plain::number_rule(IE, t, place)),
-        3 => one(rules_plain::uli_rule(IE, t, ip)),
-        4 => rules_fields::antigen_at(line, head, since, t, book, q, day),
-        _ => one(rules_forms::basic_rule(IE, false, f, t)),
+        2 => one(rules_plain::field2_number(IE, t, place)),
+        3 => one(rules_plain::field3_uli(IE, t, ip)),
+        4 => rules_fields::ie4_antigen(line, head, since, t, book, q, day),
+        _ => one(rules_forms::rules1_and_2(IE, false, f, t)),
     }
 }

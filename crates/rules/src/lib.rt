@@ -34,14 +34,14 @@ struct State {
     place: usize,
     ip: Span,
     ii: Span,
-    declined: Span,
+    refusal: Span,
     known: Known,
     since: usize,
     last: Span,
     run: usize,
     many: bool,
     first: Span,
-    ins: usize,
+    not_immunized: usize,
 }
 
 // Whether a line is in a block, whether it joins the open one, and where its block starts.
@@ -61,7 +61,7 @@ struct Turn {
 // What a whole walk finds: how many findings, and how many IN records.
 struct Walked {
     findings: usize,
-    declined: usize,
+    not_immunized: usize,
 }
 
 // How many blocks, findings and IN records a file has; or the file is too long, or its blocks are too many, for the room lent.
@@ -69,7 +69,7 @@ pub enum Judged {
     Done {
         blocks: usize,
         findings: usize,
-        declined: usize,
+        not_immunized: usize,
     },
     TooMany,
 }

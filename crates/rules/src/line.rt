@@ -104,7 +104,7 @@ fn judge_field(
 }
 
 // Where the field behind the one that starts at a position of a line with text t starts.
-fn behind(line: &[u8], at: usize, t: &[u8]) -> usize
+fn next_start(line: &[u8], at: usize, t: &[u8]) -> usize
     requires { ⌜ at + length (now t) < length (now line) ⌝ }
     ensures { λ r. ⌜ r ≡ at + length (now (t .entry)) + 1 ⌝ }
 {
@@ -178,7 +178,7 @@ fn judge_each(
             t,
         );
         c = emit(area, c, n, f, b);
-        at = behind(line, at, t);
+        at = next_start(line, at, t);
         f += 1;
     }
     c

@@ -15,9 +15,9 @@ ghost use Rattle.rules.specs.Fields.{dayIn};
 fn event_of(line: &[u8]) -> [u8; 37]
     ensures { λ r. ⌜ r ≡ eventOf (recOf (now (line .entry))) ⌝ }
 {
-    let third = rules_forms::behind(line, 2);
-    let sixth = rules_forms::behind(third, 3);
-    let eighth = rules_forms::behind(sixth, 2);
+    let third = rules_forms::after_fields(line, 2);
+    let sixth = rules_forms::after_fields(third, 3);
+    let eighth = rules_forms::after_fields(sixth, 2);
     let key = house::Key::of(
         lines_fields::field_of(third, 1),
         lines_fields::field_of(sixth, 1),
@@ -40,7 +40,7 @@ pub(crate) fn facts_of(
     let joined = b.joined;
     if b.inb {
         let key = event_of(line);
-        let repeated = rules_walk::names_before(file, index, key, b.from);
+        let repeated = rules_walk::rule15_named_before(file, index, key, b.from);
         let alive = ledger::is_live(ledger, live, key);
         return Facts {
             inb: true,

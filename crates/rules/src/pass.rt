@@ -23,7 +23,7 @@ ghost use mathlib.Core.Path.{_≡_};
 ghost use mathlib.Core.Bool.{true, cond};
 ghost use Prim.Native.Nat.{_+_, _*_, _^_, _≤_, _<_};
 ghost use lib.ListN.{length, take, drop};
-ghost use Rattle.house.specs.Text.{count, front};
+ghost use Rattle.house.specs.Text.{howMany, front};
 ghost use Rattle.lines_fields.specs.Lines.{fieldsOf};
 ghost use Rattle.lines.specs.Records.{IE, IN, isKind, recordOf, recs};
 ghost use Rattle.lines.specs.Inside.{whole};
@@ -69,7 +69,7 @@ fn judge_parts(
     requires { ⌜ PartsIn (now file) at l st from head own ⌝ }
     requires { ⌜ k ≡ recordOf (part (now file) at (l .end)) ⌝ }
     requires { ⌜ count + 3 * length (fieldsOf (part (now file) at (l .end))) < 2 ^ 63 ⌝ }
-    ensures { λ r. ⌜ ((s : Setting) (v : Seen) → Told today (now (book .entry)) q (st .place) (st .known .born) (part (now (file .entry)) at (l .end)) (partOf (now (file .entry)) (st .ip)) (partOf (now (file .entry)) head) (part (now (file .entry)) (st .since) at) (part (now (file .entry)) from at) (part (now (file .entry)) (l .next) own) (partOf (now (file .entry)) (st .first)) day facts s v → kept r (now (area .exit)) ≡ keep (fieldsFindings s (st .n) v 1 (length (fieldsOf (part (now (file .entry)) at (l .end))))) (kept count (now (area .entry)))) ⌝ }
+    ensures { λ r. ⌜ ((s : Setting) (v : Seen) → Told today (now (book .entry)) q (st .place) (st .known .born) (part (now (file .entry)) at (l .end)) (partOf (now (file .entry)) (st .ip)) (partOf (now (file .entry)) head) (part (now (file .entry)) (st .since) at) (part (now (file .entry)) from at) (part (now (file .entry)) (l .next) own) (partOf (now (file .entry)) (st .first)) day facts s v → kept r (now (area .exit)) ≡ keep (fieldsFindings s (st .n) v 1 (length (fieldsOf (part (now (file .entry)) at (l .end))))) (kept howMany (now (area .entry)))) ⌝ }
     ensures { λ r. ⌜ r ≤ count + 3 * length (fieldsOf (part (now (file .entry)) at (l .end))) ⌝ }
 {
     let end = l.end;
@@ -125,7 +125,7 @@ fn judge_line(
     requires { ⌜ Ready (now file) at l k st b ⌝ }
     requires { ⌜ day ≡ dayBy k (part (now file) at (l .end)) (st .known) ⌝ }
     requires { ⌜ count ≤ 3 * at ⌝ }
-    ensures { λ r. ⌜ ((s : Setting) → Looks today (now (book .entry)) q s → kept r (now (area .exit)) ≡ keep (fieldsFindings s (st .n) (seenWith (now (file .entry)) at st (part (now (file .entry)) at (l .end)) (headAt st k (span at (l .end))) (b .from) (front (isKind IE) (recs (drop (l .next) (now (file .entry))))) facts) 1 (length (fieldsOf (part (now (file .entry)) at (l .end))))) (kept count (now (area .entry)))) ⌝ }
+    ensures { λ r. ⌜ ((s : Setting) → Looks today (now (book .entry)) q s → kept r (now (area .exit)) ≡ keep (fieldsFindings s (st .n) (seenWith (now (file .entry)) at st (part (now (file .entry)) at (l .end)) (headAt st k (span at (l .end))) (b .from) (front (isKind IE) (recs (drop (l .next) (now (file .entry))))) facts) 1 (length (fieldsOf (part (now (file .entry)) at (l .end))))) (kept howMany (now (area .entry)))) ⌝ }
     ensures { λ r. ⌜ r ≤ 3 * l .next ⌝ }
 {
     let end = l.end;
@@ -170,7 +170,7 @@ fn turn(
     requires { ⌜ length (now file) ≤ 5000000 ⌝ }
     requires { ⌜ Serves (now file) (now index) ⌝ }
     requires { ⌜ count ≤ 3 * at ⌝ }
-    ensures { λ r. ⌜ TurnIs (settingBy today (now (book .entry)) q (foundIn (now (ledger .entry)) live)) (now (file .entry)) at st count (now (area .entry)) r (now (area .exit)) ⌝ }
+    ensures { λ r. ⌜ TurnIs (settingBy today (now (book .entry)) q (foundIn (now (ledger .entry)) live)) (now (file .entry)) at st howMany (now (area .entry)) r (now (area .exit)) ⌝ }
 {
     let l = lines_fields::line_at(file, at);
     let end = l.end;
@@ -219,7 +219,7 @@ fn walk(
     requires { ⌜ Serves (now file) (now index) ⌝ }
     ensures { λ r. ⌜ r .findings ≡ length (findingsBy today (now (file .entry)) (now (book .entry)) q (now (ledger .entry)) live) ⌝ }
     ensures { λ r. ⌜ now (area .exit) ≡ areaAfter (now (area .entry)) (findingsBy today (now (file .entry)) (now (book .entry)) q (now (ledger .entry)) live) ⌝ }
-    ensures { λ r. ⌜ r .declined ≡ count (isKind IN) (recs (now (file .entry))) ⌝ }
+    ensures { λ r. ⌜ r .«not_immunized» ≡ howMany (isKind IN) (recs (now (file .entry))) ⌝ }
 {
     let mut st = start();
     let mut at = 0;
@@ -242,8 +242,11 @@ fn walk(
         at = t.at;
         findings = t.count;
     }
-    let declined = st.ins;
-    Walked { findings, declined }
+    let not_immunized = st.not_immunized;
+    Walked {
+        findings,
+        not_immunized,
+    }
 }
 
 // How many places of the index are to be asked for events named before: none where no two of its blocks name one event.
@@ -278,7 +281,7 @@ pub fn judge(
             Judged::Done {
                 blocks,
                 findings: w.findings,
-                declined: w.declined,
+                not_immunized: w.not_immunized,
             }
         }
     }

@@ -38,18 +38,18 @@ pub(crate) fn judge_ii(
     ensures { λ r. ⌜ ((s : Setting) (v : Seen) → Looks today (now (book .entry)) q s → Shows place born (now (line .entry)) (now (ip .entry)) v → DayIs day v → Blocked facts (now (line .entry)) (now (block .entry)) (now (own .entry)) (now (first .entry)) v → listed r ≡ brokenAt s v f) ⌝ }
 {
     match f {
-        2 => one(rules_plain::number_rule(II, t, place)),
-        3 => one(rules_plain::uli_rule(II, t, ip)),
-        4 => rules_fields::type_at(t, facts),
-        6 => one(rules_plain::date_rule(II, 6, t, today, born)),
-        8 => rules_fields::vaccine_at(t, own, first, book, q, day, facts),
-        9 => rules_fields::site_at(line, relaxed, t),
-        10 => rules_fields::method_at(line, relaxed, t),
-        11 => rules_fields::reason_at(line, relaxed, t, book, q, day),
-        12 => rules_fields::dosage_at(line, relaxed, t),
-        13 => rules_fields::dosage_type_at(line, relaxed, t, book, q, day),
-        14 => one(rules_fields::code_rule(II, relaxed, 14, t, 4, t, book, q, day)),
-        15 => one(rules_plain::lot_rule(relaxed, t, block)),
-        _ => one(rules_forms::basic_rule(II, relaxed, f, t)),
+        2 => one(rules_plain::field2_number(II, t, place)),
+        3 => one(rules_plain::field3_uli(II, t, ip)),
+        4 => rules_fields::ii4_type(t, facts),
+        6 => one(rules_plain::ii6_in5_date(II, 6, t, today, born)),
+        8 => rules_fields::ii8_vaccine(t, own, first, book, q, day, facts),
+        9 => rules_fields::ii9_site(line, relaxed, t),
+        10 => rules_fields::ii10_method(line, relaxed, t),
+        11 => rules_fields::ii11_reason(line, relaxed, t, book, q, day),
+        12 => rules_fields::ii12_dosage(line, relaxed, t),
+        13 => rules_fields::ii13_dosage_type(line, relaxed, t, book, q, day),
+        14 => one(rules_fields::code_field(II, relaxed, 14, t, 4, t, book, q, day)),
+        15 => one(rules_plain::ii15_lot(relaxed, t, block)),
+        _ => one(rules_forms::rules1_and_2(II, relaxed, f, t)),
     }
 }

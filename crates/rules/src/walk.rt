@@ -9,7 +9,7 @@ ghost use Prim.Native.Nat.{_+_, _^_, _≤_, _<_};
 ghost use mathlib.Core.Bool.{true};
 ghost use lib.ListN.{length, take};
 ghost use Rattle.lines.specs.Inside.{whole};
-ghost use Rattle.rules.specs.Walk.{Holds, BlockIs, OwnIs, headAt, nextPlace, nextOf, nextBorn, nextDay, nextKnown, nextSince, nextLast, nextRun, nextMany, nextFirst, nextIns, advanced, startState};
+ghost use Rattle.rules.specs.Walk.{Holds, BlockIs, OwnIs, headAt, nextPlace, nextOf, nextBorn, nextDay, nextKnown, nextSince, nextLast, nextRun, nextMany, nextFirst, nextNotImmunized, advanced, startState};
 
 // The place of the next line, if it is numbered.
 fn next_place(place: usize, k: u8) -> usize
@@ -88,11 +88,11 @@ fn next_first(first: Span, many: bool, k: u8, joined: bool, next: usize) -> Span
 }
 
 // How many IN lines there are so far.
-fn next_ins(ins: usize, k: u8) -> usize
-    requires { ⌜ ins + 1 < 2 ^ 64 ⌝ }
-    ensures { λ r. ⌜ r ≡ nextIns ins k ⌝ }
+fn next_not_immunized(not_immunized: usize, k: u8) -> usize
+    requires { ⌜ n + 1 < 2 ^ 64 ⌝ }
+    ensures { λ r. ⌜ r ≡ nextNotImmunized n k ⌝ }
 {
-    if k == lines::IN { ins + 1 } else { ins }
+    if k == lines::IN { n + 1 } else { n }
 }
 
 // The day of birth that the nearest IP gives.
@@ -126,12 +126,12 @@ pub(crate) fn next_known(was: Known, k: u8, line: &[u8], day: Day) -> Known
 
 // The state after a line of kind k that stands at `here`.
 pub(crate) fn advance(st: State, k: u8, here: Span, next: usize, b: BlockAt, known: Known) -> State
-    requires { ⌜ (st .n + 1 < 2 ^ 64) × (st .place + 1 < 2 ^ 64) × (st .ins + 1 < 2 ^ 64) ⌝ }
+    requires { ⌜ (st .n + 1 < 2 ^ 64) × (st .place + 1 < 2 ^ 64) × (st .«not_immunized» + 1 < 2 ^ 64) ⌝ }
     ensures { λ r. ⌜ r ≡ advanced st k here next b known ⌝ }
 {
     let ip = next_of(lines::IP, st.ip, k, here);
     let ii = next_of(lines::II, st.ii, k, here);
-    let declined = next_of(lines::IN, st.declined, k, here);
+    let refusal = next_of(lines::IN, st.refusal, k, here);
     let last = next_last(st.last, k, b.inb, here);
     let first = next_first(st.first, st.many, k, b.joined, next);
     State {
@@ -139,14 +139,14 @@ pub(crate) fn advance(st: State, k: u8, here: Span, next: usize, b: BlockAt, kno
         place: next_place(st.place, k),
         ip,
         ii,
-        declined,
+        refusal,
         known,
         since: next_since(st.since, k, next),
         last,
         run: next_run(st.run, k, b.inb, b.from, next),
         many: next_many(st.many, k, b.joined),
         first,
-        ins: next_ins(st.ins, k),
+        not_immunized: next_not_immunized(st.not_immunized, k),
     }
 }
 
@@ -159,8 +159,8 @@ pub(crate) fn head_at(st: State, k: u8, here: Span) -> Span
         return ii;
     }
     if k == lines::IA {
-        let declined = st.declined;
-        return declined;
+        let refusal = st.refusal;
+        return refusal;
     }
     here
 }
@@ -228,7 +228,7 @@ pub(crate) fn start() -> State
         place: 1,
         ip: none,
         ii: none,
-        declined: none,
+        refusal: none,
         known: Known {
             born: 0,
             ii_day: no_day,
@@ -239,6 +239,6 @@ pub(crate) fn start() -> State
         run: 0,
         many: false,
         first: none,
-        ins: 0,
+        not_immunized: 0,
     }
 }

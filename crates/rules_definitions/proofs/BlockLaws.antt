@@ -20,7 +20,7 @@ use Rattle.house.proofs.Padding.{pad-whole, pad-inj, pad-padded, length-key, ke
 use Rattle.lines.specs.Records.{Rec, II, isKind, recs}
 use Rattle.ledger.specs.Ledger.{Event, eventForm}
 use Rattle.rules_definitions.specs.Forms.{fieldIn, text, table, formOf, isJudged, isOptional, isMissing, isMisformed, isSound, isUli, isType, isCode}
-use Rattle.rules_definitions.specs.Places.{Place, placesFrom, placesOf, placesIn}
+use Rattle.rules_definitions.specs.Contexts.{Context, contextsFrom, contextsOf, contextsIn}
 use Rattle.rules_definitions.specs.Blocks.{isInBlock, eventOf, sameEvent, joins, nearestOf, openAfter, begins, beforeOpen, beforeBlock, isRepeated, beginsBlock, eventsOf, adds, changes, deletes}
 use Rattle.rules_definitions.specs.Seen.{Setting, seenAt}
 use Rattle.rules_definitions.specs.Rules.{rules, rulesIn, rulesOf, isBroken, isAt, asks, rule15, rule16, rule17, rule18}
@@ -133,13 +133,13 @@ there fs f t = go (leb f (length fs)) refl
 -- What no finding means
 
 module _ (s : Setting) (file : Text) (clean : findingsOf s file ≡ []) where
-  unbroken : (h : Place) (f r : ℕ) → In h (placesIn file) → 1 ≤ f → f ≤ length (h .line .fields) → T (isBroken s (seenAt s h) f r) → ⊥
+  unbroken : (h : Context) (f r : ℕ) → In h (contextsIn file) → 1 ≤ f → f ≤ length (h .line .fields) → T (isBroken s (seenAt s h) f r) → ⊥
   unbroken h f r m lo hi t =
       subst (λ (xs : List Finding). In (record { line = h .number; field = f; rule = r }) xs) clean
       (findings-listed s file .every (record { line = h .number; field = f; rule = r })
       (record { at = h; there = m; line-is = refl; from = lo; upto = hi; broken = t }))
 
-  module _ (h : Place) (m : In h (placesIn file)) (b : Named (h .line)) where
+  module _ (h : Context) (m : In h (contextsIn file)) (b : Named (h .line)) where
     not-15 : T (rule15 s (seenAt s h) 8) → ⊥
     unfolding isBroken rulesOf rulesIn rules
     not-15 t = unbroken h 8 15 m (omega arith) (there (h .line .fields) 8 (b .code-given)) (left-of (rule15 s (seenAt s h) 8) false t)
@@ -158,10 +158,10 @@ module _ (s : Setting) (file : Text) (clean : findingsOf s file ≡ []) where
 
 -- Each event once
 
-abbrev eventAt : Place → Event
+abbrev eventAt : Context → Event
 eventAt h = eventOf (h .line)
 
-abbrev beginsAt : Place → Bool
+abbrev beginsAt : Context → Bool
 beginsAt h = begins (h .line) (h .before)
 
 begins-in : (l : Rec) (before : List Rec) → T (begins l before) → T (isInBlock l) × T (not (joins l (nearestOf (openAfter before))))
@@ -184,22 +184,22 @@ first-repeats l p before t m b e = go (isInBlock l) (joins l (nearestOf (openAft
     go true false q u w = found
     go false j q u w = absurd u
 
-before-kept : (n : ℕ) (p : Rec) (before ls : List Rec) (h : Place) → In h (placesFrom n before ls) → In p before → In p (h .before)
+before-kept : (n : ℕ) (p : Rec) (before ls : List Rec) (h : Context) → In h (contextsFrom n before ls) → In p before → In p (h .before)
 before-kept n p before [] h m k = absurd m
-before-kept n p before (l ∷ ls) h (inl e) k = subst (λ (g : Place). In p (g .before)) (sym e) k
+before-kept n p before (l ∷ ls) h (inl e) k = subst (λ (g : Context). In p (g .before)) (sym e) k
 before-kept n p before (l ∷ ls) h (inr m) k = before-kept (suc n) p (l ∷ before) ls h m (inr k)
 
 -- where no first II is repeated, each event has one first II
 once-from : (n : ℕ) (before ls : List Rec)
-    → ((h : Place) → In h (placesFrom n before ls) → T (beginsAt h) → T (isRepeated (h .line) (h .before)) → ⊥)
-    → Distinct (map eventAt (those beginsAt (placesFrom n before ls)))
+    → ((h : Context) → In h (contextsFrom n before ls) → T (beginsAt h) → T (isRepeated (h .line) (h .before)) → ⊥)
+    → Distinct (map eventAt (those beginsAt (contextsFrom n before ls)))
 once-from n before [] never = tt
 once-from n before (l ∷ ls) never = go (once-from (suc n) (l ∷ before) ls (λ h m. never h (inr m))) (begins l before) refl
   where
-    rest : List Place
-    rest = placesFrom (suc n) (l ∷ before) ls
+    rest : List Context
+    rest = contextsFrom (suc n) (l ∷ before) ls
 
-    here : Place
+    here : Context
     here = record { number = n; before = before; line = l; after = ls }
 
     go : Distinct (map eventAt (those beginsAt rest)) → (b : Bool) → begins l before ≡ b → Distinct (map eventAt (cond b (here ∷ those beginsAt rest) (those beginsAt rest)))
@@ -216,16 +216,16 @@ once-from n before (l ∷ ls) never = go (once-from (suc n) (l ∷ before) ls (�
 
 -- The law of a file without findings
 
-begins-block : (type : Text) (h : Place) → T (beginsBlock type h) → T (beginsAt h) × T (same (text (h .line) 4) type)
+begins-block : (type : Text) (h : Context) → T (beginsBlock type h) → T (beginsAt h) × T (same (text (h .line) 4) type)
 unfolding beginsBlock
 begins-block type h t = both (begins (h .line) (h .before)) (same (text (h .line) 4) type) t
 
-at-II : (s : Setting) (h : Place) (f : ℕ) → Named (h .line) → T (isAt (seenAt s h) f II f)
+at-II : (s : Setting) (h : Context) (f : ℕ) → Named (h .line) → T (isAt (seenAt s h) f II f)
 unfolding seenAt
 at-II s h f b = both-of (eqb (h .line .kind) 4) (eqb f f) (b .kind-is) (eqb-refl f)
 
 -- where an event of a type comes from
-pub event-from : (type : Text) (hs : List Place) (e : Event) → In e (eventsOf type hs) → (h : Place) × In h hs × T (beginsBlock type h) × (e ≡ eventOf (h .line))
+pub event-from : (type : Text) (hs : List Context) (e : Event) → In e (eventsOf type hs) → (h : Context) × In h hs × T (beginsBlock type h) × (e ≡ eventOf (h .line))
 unfolding eventsOf
 event-from type hs e m =
     let r = in-map eventAt e (those (beginsBlock type) hs) m in
@@ -233,20 +233,20 @@ event-from type hs e m =
     (r .0, q .0, q .1, r .2)
 
 module _ (s : Setting) (file : Text) (clean : findingsOf s file ≡ []) where
-  hs : List Place
-  hs = placesIn file
+  hs : List Context
+  hs = contextsIn file
 
-  first-named : (h : Place) → T (beginsAt h) → Named (h .line)
+  first-named : (h : Context) → T (beginsAt h) → Named (h .line)
   first-named h t = named (h .line) (begins-in (h .line) (h .before) t .0)
 
-  never-repeats : (h : Place) → In h (placesIn file) → T (beginsAt h) → T (isRepeated (h .line) (h .before)) → ⊥
+  never-repeats : (h : Context) → In h (contextsIn file) → T (beginsAt h) → T (isRepeated (h .line) (h .before)) → ⊥
   unfolding rule15 seenAt
   never-repeats h m t r =
       let b = first-named h t in
       not-15 s file clean h m b (both-of (isAt (seenAt s h) 8 II 8) (isRepeated (h .line) (h .before)) (at-II s h 8 b) r)
 
   once : Distinct (map eventAt (those beginsAt hs))
-  unfolding hs placesIn placesOf
+  unfolding hs contextsIn contextsOf
   once = once-from 1 [] (recs file) never-repeats
 
   once-of : (type : Text) → Distinct (eventsOf type hs)
@@ -262,9 +262,9 @@ module _ (s : Setting) (file : Text) (clean : findingsOf s file ≡ []) where
       let c = begins-block other (q .0) (q .2) in
       let i : p .0 ≡ q .0 = same-one eventAt beginsAt (p .0) (q .0) hs once (p .1) (q .1) (b .0) (c .0) (sym (p .3) ∙ q .3) in
       ne
-      (sym (same-is (text (p .0 .line) 4) type (b .1)) ∙ ap (λ (h : Place). text (h .line) 4) i ∙ same-is (text (q .0 .line) 4) other (c .1))
+      (sym (same-is (text (p .0 .line) 4) type (b .1)) ∙ ap (λ (h : Context). text (h .line) 4) i ∙ same-is (text (q .0 .line) 4) other (c .1))
 
-  asks-it : (type : Text) (h : Place) → T (beginsBlock type h) → T (asks (seenAt s h) 4 type)
+  asks-it : (type : Text) (h : Context) → T (beginsBlock type h) → T (asks (seenAt s h) 4 type)
   unfolding asks seenAt
   asks-it type h t =
       let p = begins-block type h t in
@@ -273,17 +273,17 @@ module _ (s : Setting) (file : Text) (clean : findingsOf s file ≡ []) where
       (both-of (isInBlock (h .line)) (same (text (h .line) 4) type) i (p .1))
 
   -- the first II's event is live, or it is not, as its type asks
-  live-or : (h : Place) → (b : Bool) → s .live (eventOf (h .line)) ≡ b → (T (not (s .live (eventOf (h .line)))) → ⊥) → T (s .live (eventOf (h .line)))
+  live-or : (h : Context) → (b : Bool) → s .live (eventOf (h .line)) ≡ b → (T (not (s .live (eventOf (h .line)))) → ⊥) → T (s .live (eventOf (h .line)))
   live-or h true e n = of-true (s .live (eventOf (h .line))) e
   live-or h false e n = absurd (n (subst (λ (b : Bool). T (not b)) (sym e) tt))
 
-  add-new : (h : Place) → In h hs → T (beginsBlock adds h) → T (s .live (eventOf (h .line))) → ⊥
+  add-new : (h : Context) → In h hs → T (beginsBlock adds h) → T (s .live (eventOf (h .line))) → ⊥
   unfolding rule16 seenAt hs
   add-new h m t l =
       not-16 s file clean h m (first-named h (begins-block adds h t .0))
       (both-of (asks (seenAt s h) 4 adds) (s .live (eventOf (h .line))) (asks-it adds h t) l)
 
-  change-live : (h : Place) → In h hs → T (beginsBlock changes h) → T (s .live (eventOf (h .line)))
+  change-live : (h : Context) → In h hs → T (beginsBlock changes h) → T (s .live (eventOf (h .line)))
   unfolding rule17 seenAt hs
   change-live h m t =
       live-or h (s .live (eventOf (h .line))) refl
@@ -291,7 +291,7 @@ module _ (s : Setting) (file : Text) (clean : findingsOf s file ≡ []) where
       not-17 s file clean h m (first-named h (begins-block changes h t .0))
       (both-of (asks (seenAt s h) 4 changes) (not (s .live (eventOf (h .line)))) (asks-it changes h t) n))
 
-  delete-live : (h : Place) → In h hs → T (beginsBlock deletes h) → T (s .live (eventOf (h .line)))
+  delete-live : (h : Context) → In h hs → T (beginsBlock deletes h) → T (s .live (eventOf (h .line)))
   unfolding rule18 seenAt hs
   delete-live h m t =
       live-or h (s .live (eventOf (h .line))) refl
@@ -299,7 +299,7 @@ module _ (s : Setting) (file : Text) (clean : findingsOf s file ≡ []) where
       not-18 s file clean h m (first-named h (begins-block deletes h t .0))
       (both-of (asks (seenAt s h) 4 deletes) (not (s .live (eventOf (h .line)))) (asks-it deletes h t) n))
 
-  from-live : (type : Text) → ((h : Place) → In h hs → T (beginsBlock type h) → T (s .live (eventOf (h .line)))) → (e : Event) → In e (eventsOf type hs) → T (s .live e)
+  from-live : (type : Text) → ((h : Context) → In h hs → T (beginsBlock type h) → T (s .live (eventOf (h .line)))) → (e : Event) → In e (eventsOf type hs) → T (s .live e)
   from-live type law e m =
       let r = event-from type hs e m in
       subst (λ (x : Event). T (s .live x)) (sym (r .3)) (law (r .0) (r .1) (r .2))
@@ -318,13 +318,13 @@ clean-file s file clean =
       change-or-delete = for-one s file clean changes deletes (λ e. subst T (ap isChange e) tt);
       adds-new =
           λ e m k.
-          let r = event-from adds (placesIn file) e m in
+          let r = event-from adds (contextsIn file) e m in
           add-new s file clean (r .0) (r .1) (r .2) (subst (λ (x : Event). T (s .live x)) (r .3) k);
       changes-live = from-live s file clean changes (change-live s file clean);
       deletes-live = from-live s file clean deletes (delete-live s file clean);
       adds-formed =
           λ e m.
-          let r = event-from adds (placesIn file) e m in
+          let r = event-from adds (contextsIn file) e m in
           subst (λ (x : Event). T (eventForm x) × (length x ≡ 37)) (sym (r .3))
           (event-formed (r .0 .line) (first-named s file clean (r .0) (begins-block adds (r .0) (r .2) .0)));
     }

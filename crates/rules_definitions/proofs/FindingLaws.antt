@@ -14,7 +14,7 @@ use Rattle.house.proofs.Facts.{both, both-of, either, left-of, right-of, of-tru
 use Rattle.house.proofs.Members.{in-cases, in-left, in-right, in-joined, joined-in, rising-append, one-rising}
 use Rattle.house.proofs.Small.{Three, lt, eq, gt, three}
 use Rattle.lines.specs.Records.{Rec, recs}
-use Rattle.rules_definitions.specs.Places.{Place, placesFrom, placesOf, placesIn}
+use Rattle.rules_definitions.specs.Contexts.{Context, contextsFrom, contextsOf, contextsIn}
 use Rattle.rules_definitions.specs.Seen.{Setting, Seen, seenAt}
 use Rattle.rules_definitions.specs.Rules.{Numbered, rules, rulesIn, rulesOf, isBroken, brokenBy, brokenAt}
 use Rattle.rules_definitions.specs.Findings.{Finding, found, fieldsFindings, lineFindings, findingsOf}
@@ -171,47 +171,47 @@ module _ (s : Setting) (n : ℕ) (v : Seen) where
 -- The lines of the file
 
 module _ (s : Setting) where
-  in-line : (h : Place) (y : Finding) → In y (lineFindings s h) → AtFields s (h .number) (seenAt s h) 1 (length (h .line .fields)) y
+  in-line : (h : Context) (y : Finding) → In y (lineFindings s h) → AtFields s (h .number) (seenAt s h) 1 (length (h .line .fields)) y
   unfolding lineFindings
   in-line h y m = at-fields s (h .number) (seenAt s h) 1 (length (h .line .fields)) y m
 
-  line-has : (h : Place) (f r : ℕ) → 1 ≤ f → f ≤ length (h .line .fields) → T (isBroken s (seenAt s h) f r) → In (finding (h .number) f r) (lineFindings s h)
+  line-has : (h : Context) (f r : ℕ) → 1 ≤ f → f ≤ length (h .line .fields) → T (isBroken s (seenAt s h) f r) → In (finding (h .number) f r) (lineFindings s h)
   unfolding lineFindings
   line-has h f r lo hi t = fields-at s (h .number) (seenAt s h) 1 (length (h .line .fields)) f r lo (omega arith) t
 
   -- the lines of places from n on have numbers from n on
-  numbered-from : (n : ℕ) (before ls : List Rec) (h : Place) → In h (placesFrom n before ls) → n ≤ h .number
+  numbered-from : (n : ℕ) (before ls : List Rec) (h : Context) → In h (contextsFrom n before ls) → n ≤ h .number
   numbered-from n before [] h m = absurd m
-  numbered-from n before (l ∷ ls) h (inl e) = let q : h .number ≡ n = ap (λ (g : Place). g .number) e in omega arith
+  numbered-from n before (l ∷ ls) h (inl e) = let q : h .number ≡ n = ap (λ (g : Context). g .number) e in omega arith
   numbered-from n before (l ∷ ls) h (inr m) = let q = numbered-from (suc n) (l ∷ before) ls h m in omega arith
 
-  lines-ascend : (n : ℕ) (before ls : List Rec) → Ascending (joined (lineFindings s) (placesFrom n before ls))
+  lines-ascend : (n : ℕ) (before ls : List Rec) → Ascending (joined (lineFindings s) (contextsFrom n before ls))
   unfolding lineFindings
   lines-ascend n before [] = tt
   lines-ascend n before (l ∷ ls) =
-      let h : Place = record { number = n; before = before; line = l; after = ls } in
-      rising-append Before (lineFindings s h) (joined (lineFindings s) (placesFrom (suc n) (l ∷ before) ls))
+      let h : Context = record { number = n; before = before; line = l; after = ls } in
+      rising-append Before (lineFindings s h) (joined (lineFindings s) (contextsFrom (suc n) (l ∷ before) ls))
       (fields-ascend s n (seenAt s h) 1 (length (l .fields)))
       (lines-ascend (suc n) (l ∷ before) ls)
       (λ x y m k.
       let a = in-line h x m in
-      let p = in-joined (lineFindings s) y (placesFrom (suc n) (l ∷ before) ls) k in
+      let p = in-joined (lineFindings s) y (contextsFrom (suc n) (l ∷ before) ls) k in
       let b = in-line (p .0) y (p .2) in
       let q = numbered-from (suc n) (l ∷ before) ls (p .0) (p .1) in
       inl (omega (arith, a .line-is, b .line-is)))
 
 -- A finding is in the list exactly if that rule is broken there, and the list ascends strictly.
 pub findings-listed : FindingsListed
-unfolding findingsOf placesIn placesOf
+unfolding findingsOf contextsIn contextsOf
 findings-listed s file =
     record {
       in-order = lines-ascend s 1 [] (recs file);
       only =
           λ y m.
-          let p = in-joined (lineFindings s) y (placesIn file) m in
+          let p = in-joined (lineFindings s) y (contextsIn file) m in
           let a = in-line s (p .0) y (p .2) in
           record { at = p .0; there = p .1; line-is = a .line-is; from = a .from; upto = omega (arith, a .upto); broken = a .broken };
-      every = λ y b. joined-in (lineFindings s) (b .at) y (placesIn file) (b .there) (in-place y b);
+      every = λ y b. joined-in (lineFindings s) (b .at) y (contextsIn file) (b .there) (in-place y b);
     }
   where
     in-place : (y : Finding) (b : Broken s file y) → In y (lineFindings s (b .at))

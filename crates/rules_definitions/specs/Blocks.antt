@@ -8,7 +8,7 @@ use Rattle.house.specs.Key.{keyOf}
 use Rattle.lines.specs.Records.{Rec, II, IE, isKind}
 use Rattle.ledger.specs.Ledger.{Event}
 use Rattle.rules_definitions.specs.Forms.{text, isSound}
-use Rattle.rules_definitions.specs.Places.{Place, noRec}
+use Rattle.rules_definitions.specs.Contexts.{Context, noRec}
 
 -- "an II with one of the four unsound is in no block"
 unfoldable pub isInBlock : Rec → Bool
@@ -85,9 +85,9 @@ abbrev pub deletes : Text
 deletes = bytes "D"
 
 -- the line is the first II of a block of this type
-unfoldable pub beginsBlock : Text → Place → Bool
+unfoldable pub beginsBlock : Text → Context → Bool
 beginsBlock type h = begins (h .line) (h .before) && same (text (h .line) 4) type
 
 -- the events that the blocks of this type name, a block once, in the file's order
-unfoldable pub eventsOf : Text → List Place → List Event
-eventsOf type hs = map (λ (h : Place). eventOf (h .line)) (those (beginsBlock type) hs)
+unfoldable pub eventsOf : Text → List Context → List Event
+eventsOf type hs = map (λ (h : Context). eventOf (h .line)) (those (beginsBlock type) hs)

@@ -11,7 +11,7 @@ use lib.Dec.{T}
 use Rattle.house.specs.Text.{Text}
 use Rattle.house.specs.Members.{In, Distinct, Rising}
 use Rattle.ledger.specs.Ledger.{Event, eventForm}
-use Rattle.rules_definitions.specs.Places.{Place, placesIn}
+use Rattle.rules_definitions.specs.Contexts.{Context, contextsIn}
 use Rattle.rules_definitions.specs.Blocks.{joinsOpen, beginsBlock, eventsOf, adds, changes, deletes}
 use Rattle.rules_definitions.specs.Seen.{Setting, seenAt}
 use Rattle.rules_definitions.specs.Rules.{isBroken}
@@ -21,8 +21,8 @@ use Rattle.rules_definitions.specs.Findings.{Finding, findingsOf, findin
 
 -- the finding names a line of the file, one of its fields, and a rule that is broken there
 pub record Broken (s : Setting) (file : Text) (y : Finding) : Type 0 where
-  pub at : Place
-  pub there : In at (placesIn file)
+  pub at : Context
+  pub there : In at (contextsIn file)
   pub line-is : y .line ≡ at .number
   pub from : 1 ≤ y .field
   pub upto : y .field ≤ length (at .line .fields)
@@ -72,7 +72,7 @@ OneArea = (area : Text) (xs : List Finding) (a b : Text) → AreaHolds area xs a
 -- BLOCKS
 
 -- what a file without findings says of the events that its blocks name
-pub record Clean (s : Setting) (hs : List Place) : Type 0 where
+pub record Clean (s : Setting) (hs : List Context) : Type 0 where
   -- each event is named once, also where a block has several lots
   pub adds-once : Distinct (eventsOf adds hs)
   pub changes-once : Distinct (eventsOf changes hs)
@@ -88,8 +88,8 @@ pub record Clean (s : Setting) (hs : List Place) : Type 0 where
   pub adds-formed : (e : Event) → In e (eventsOf adds hs) → T (eventForm e) × (length e ≡ 37)
 
 abbrev pub CleanFile : Type 0
-CleanFile = (s : Setting) (file : Text) → findingsOf s file ≡ [] → Clean s (placesIn file)
+CleanFile = (s : Setting) (file : Text) → findingsOf s file ≡ [] → Clean s (contextsIn file)
 
 -- "Lots in one block count once": an II that joins the block before it begins none
 abbrev pub LotsOnce : Type 0
-LotsOnce = (type : Text) (h : Place) → joinsOpen (h .line) (h .before) ≡ true → beginsBlock type h ≡ false
+LotsOnce = (type : Text) (h : Context) → joinsOpen (h .line) (h .before) ≡ true → beginsBlock type h ≡ false

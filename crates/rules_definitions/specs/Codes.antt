@@ -8,7 +8,7 @@ use Rattle.house.specs.Text.{Text, bytes, oneOf, number}
 use Rattle.lines.specs.Records.{Rec, II, IE, IN, IA}
 use Rattle.book.specs.Book.{codeText, vaccine, antigen, reason, manufacturer, dosageType, reasonNot, withReason, withAntigen}
 use Rattle.rules_definitions.specs.Forms.{text, isSound, isGiven}
-use Rattle.rules_definitions.specs.Places.{headKind}
+use Rattle.rules_definitions.specs.Contexts.{headKind}
 use Rattle.rules_definitions.specs.Seen.{Setting, Seen}
 
 -- "Sites (000, Table 14)". "Case counts."

@@ -4,7 +4,7 @@ use Prim.Native.Nat.{ℕ, zero, suc, _+_, _/_, _%_}
 use mathlib.Core.List.{List, [], _∷_, _++_}
 use lib.ListN.{length, take, drop}
 use Rattle.house.specs.Text.{Text, joined}
-use Rattle.rules_definitions.specs.Places.{Place, placesIn}
+use Rattle.rules_definitions.specs.Contexts.{Context, contextsIn}
 use Rattle.rules_definitions.specs.Seen.{Setting, Seen, seenAt}
 use Rattle.rules_definitions.specs.Rules.{brokenAt}
 
@@ -23,12 +23,12 @@ unfoldable pub fieldsFindings : Setting → ℕ → Seen → ℕ → ℕ → Lis
 fieldsFindings s n v f zero = []
 fieldsFindings s n v f (suc m) = found n f (brokenAt s v f) ++ fieldsFindings s n v (f + 1) m
 
-unfoldable pub lineFindings : Setting → Place → List Finding
+unfoldable pub lineFindings : Setting → Context → List Finding
 lineFindings s h = fieldsFindings s (h .number) (seenAt s h) 1 (length (h .line .fields))
 
 -- "Findings are listed by line, field, rule."
 unfoldable pub findingsOf : Setting → Text → List Finding
-findingsOf s file = joined (lineFindings s) (placesIn file)
+findingsOf s file = joined (lineFindings s) (contextsIn file)
 
 -- "A finding is one byte of kind (the rule), then 5 bytes: line as four bytes, lowest first, and field as one."
 unfoldable pub findingBytes : Finding → Text

@@ -1,5 +1,5 @@
 pub mod Forms
-pub mod Places
+pub mod Contexts
 pub mod Blocks
 pub mod Seen
 pub mod Codes

@@ -8,7 +8,7 @@ use lib.Dec.{eqb, ltb}
 use Rattle.house.specs.Text.{Text, bytes, same, any, all, number, isEmpty, within}
 use Rattle.lines.specs.Records.{Rec, IV, IP, II, IE, IN, IA}
 use Rattle.rules_definitions.specs.Forms.{text, isCount, isRelaxed, isMissing, isMisformed, isSound, isGiven}
-use Rattle.rules_definitions.specs.Places.{isNumbered}
+use Rattle.rules_definitions.specs.Contexts.{isNumbered}
 use Rattle.rules_definitions.specs.Blocks.{adds, changes, deletes}
 use Rattle.rules_definitions.specs.Seen.{Setting, Seen}
 use Rattle.rules_definitions.specs.Codes.{bookKind, isCodeField, codeIn, isKnown, dayIsSound, isInForce, pairKind, pairIn}

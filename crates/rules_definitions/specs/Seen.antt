@@ -3,10 +3,10 @@
 use Prim.Native.Nat.{ℕ, suc}
 use mathlib.Core.Bool.{Bool}
 use mathlib.Core.List.{List}
-use Rattle.house.specs.Text.{Text, front, count}
+use Rattle.house.specs.Text.{Text, front, howMany}
 use Rattle.lines.specs.Records.{Rec, IP, IE, isKind}
 use Rattle.ledger.specs.Ledger.{Event}
-use Rattle.rules_definitions.specs.Places.{Place, nearest, headOf, isNumbered}
+use Rattle.rules_definitions.specs.Contexts.{Context, nearest, headOf, isNumbered}
 use Rattle.rules_definitions.specs.Blocks.{isInBlock, eventOf, openAfter, blockIn, joinsOpen, firstOpen, isRepeated}
 
 -- today, what the book in use says, and what is live in the ledger as lent
@@ -45,10 +45,10 @@ pub record Seen : Type 0 where
   -- the event that its fields 3, 6 and 8 name is live in the ledger as lent; asked of an II in a block alone
   pub live : Bool
 
-unfoldable pub seenAt : Setting → Place → Seen
+unfoldable pub seenAt : Setting → Context → Seen
 seenAt s h =
     record {
-      place = suc (count isNumbered (h .before));
+      place = suc (howMany isNumbered (h .before));
       line = h .line;
       ip = nearest IP (h .before);
       head = headOf (h .line) (h .before);

@@ -137,7 +137,7 @@ module _ (s : Text) (q : Sections) (k : ℕ) (a b : Text) where
 
 pub ruleset for-known = (needs, known-at, known-not)
 
-pub ruleset for-code-later = (needs, later-unknown, later-in, later-out, later-undated)
+pub ruleset for-rules4-and-5-code = (needs, later-unknown, later-in, later-out, later-undated)
 
 pub ruleset for-pair = (needs, pair-unknown, pair-in, pair-out)
 
@@ -170,7 +170,7 @@ module _ (k : ℕ) (x : Bool) (f : ℕ) (t : Text) (r : ℕ) (e : r ≡ lowestIn
   pub code-given : (y : ℕ) → (length t ≡ 0 → ⊥) → y ≡ codeLater false known out → y ≡ lowestIn k x f t (codeLater (isEmpty t) known out)
   code-given y z w = rw (empty-false t z, ← w) (low-sound k x f t r y e h)
 
-pub ruleset for-code-rule = (needs, low-broken, code-empty, code-given)
+pub ruleset for-code-field = (needs, low-broken, code-empty, code-given)
 
 -- is_known_at
 module _ (a b x : Bool) (e : x ≡ a) where
@@ -263,4 +263,4 @@ module _ (n : ℕ) (a b c x : Bool) (e : x ≡ c) where
       pub pair-all : z ≡ true → n ≡ cond (a && b && c) n 0
       pair-all m = rw (← e, h, ← f, k, ← g, m)
 
-pub ruleset for-pair-rule = (needs, pair-none, vaccine-known, pair-read, pair-a, pair-b, pair-c, pair-all)
+pub ruleset for-rule11-pair = (needs, pair-none, vaccine-known, pair-read, pair-a, pair-b, pair-c, pair-all)

@@ -13,7 +13,7 @@ use Rattle.lines.specs.Records.{recOf}
 use Rattle.rules_definitions.specs.Forms.{text}
 use Rattle.rules_definitions.specs.Rules.{siteWrong, methodWrong}
 use Rattle.rules_forms.proofs.FieldLaws.{text-is}
-use Rattle.rules_fields.specs.Fields.{codeLater, ledgerRule}
+use Rattle.rules_fields.specs.Fields.{codeLater, rules16to18At}
 use Rattle.rules_fields.proofs.LookLaws.{low-broken, code-empty, code-given}
 
 -- a rule of tests that are asked one after the other
@@ -95,32 +95,32 @@ pub ruleset for-set = (needs, set-a, set-d, set-b, set-c, set-all)
 
 -- ledger_rule
 module _ (inb live : Bool) (t : Text) where
-  pub ledger-out : inb ≡ false → 0 ≡ ledgerRule inb t live
-  unfolding ledgerRule
+  pub ledger-out : inb ≡ false → 0 ≡ rules16to18At inb t live
+  unfolding rules16to18At
   ledger-out h = rw h
 
   module _ (h : inb ≡ true) where
     module _ (l : live ≡ true) (x : Bool) (e : x ≡ same t (65 ∷ [])) where
-      pub ledger-add : x ≡ true → 16 ≡ ledgerRule inb t live
-      unfolding ledgerRule
+      pub ledger-add : x ≡ true → 16 ≡ rules16to18At inb t live
+      unfolding rules16to18At
       ledger-add k = rw (h, l, ← e, k)
 
-      pub ledger-live : x ≡ false → 0 ≡ ledgerRule inb t live
-      unfolding ledgerRule
+      pub ledger-live : x ≡ false → 0 ≡ rules16to18At inb t live
+      unfolding rules16to18At
       ledger-live k = rw (h, l, ← e, k)
 
     module _ (l : live ≡ false) (x : Bool) (e : x ≡ same t (67 ∷ [])) where
-      pub ledger-change : x ≡ true → 17 ≡ ledgerRule inb t live
-      unfolding ledgerRule
+      pub ledger-change : x ≡ true → 17 ≡ rules16to18At inb t live
+      unfolding rules16to18At
       ledger-change k = rw (h, l, ← e, k)
 
       module _ (k : x ≡ false) (y : Bool) (f : y ≡ same t (68 ∷ [])) where
-        pub ledger-delete : y ≡ true → 18 ≡ ledgerRule inb t live
-        unfolding ledgerRule
+        pub ledger-delete : y ≡ true → 18 ≡ rules16to18At inb t live
+        unfolding rules16to18At
         ledger-delete m = rw (h, l, ← e, k, ← f, m)
 
-        pub ledger-other : y ≡ false → 0 ≡ ledgerRule inb t live
-        unfolding ledgerRule
+        pub ledger-other : y ≡ false → 0 ≡ rules16to18At inb t live
+        unfolding rules16to18At
         ledger-other m = rw (h, l, ← e, k, ← f, m)
 
 pub ruleset for-ledger = (needs, ledger-out, ledger-add, ledger-live, ledger-change, ledger-delete, ledger-other)

@@ -28,8 +28,8 @@ unfoldable pub codeLater : Bool → Bool → Bool → ℕ
 codeLater empty known out = cond empty 0 (cond known (cond out 5 0) 4)
 
 -- rules 16 to 18, by the type
-unfoldable pub ledgerRule : Bool → Text → Bool → ℕ
-ledgerRule inb type live = cond inb (cond live (cond (same type adds) 16 0) (cond (same type changes) 17 (cond (same type deletes) 18 0))) 0
+unfoldable pub rules16to18At : Bool → Text → Bool → ℕ
+rules16to18At inb type live = cond inb (cond live (cond (same type adds) 16 0) (cond (same type changes) 17 (cond (same type deletes) 18 0))) 0
 
 -- rules 1, 2, 4 and 5 at field f of a record of kind k with text t, read as this code of kind `of`
 abbrev pub codeBy : ℕ → Bool → ℕ → Text → ℕ → Text → Text → Sections → Day → ℕ
@@ -41,55 +41,55 @@ unfoldable pub unpairedBy : ℕ → ℕ → Rec → ℕ → Text → Bool
 unpairedBy a k l f t = eqb a 4 || (isEmpty t && not (isGiven k l f))
 
 -- rule 11 at field f of a line of kind k, the pair being of kind `pair` and the vaccine in the head
-abbrev pub pairBy : ℕ → Rec → ℕ → ℕ → Text → ℕ → Rec → Text → Sections → Day → ℕ
-pairBy k l f of t pair head book q day =
+abbrev pub rule11By : ℕ → Rec → ℕ → ℕ → Text → ℕ → Rec → Text → Sections → Day → ℕ
+rule11By k l f of t pair head book q day =
     cond
     ((isGiven 4 head 8 && knownBy book q 1 (codeText 1 (text head 8) [])) && (isGiven k l f && knownBy book q of (codeText of t []))
     && (not (knownBy book q pair (codeText pair (text head 8) t)) || (day .sound && not (forceBy book q (day .number) pair (codeText pair (text head 8) t)))))
     11 0
 
 -- rule 10 at a field with text t, which goes with another one
-abbrev pub lackBy : Rec → Bool → Text → ℕ → ℕ
-lackBy l relaxed t other = cond ((isEmpty t && isGiven II l other) && relaxed) 10 0
+abbrev pub rule10By : Rec → Bool → Text → ℕ → ℕ
+rule10By l relaxed t other = cond ((isEmpty t && isGiven II l other) && relaxed) 10 0
 
 -- IE 4
-unfoldable pub antigenAt : Text → Text → Text → Text → Text → Sections → Day → Broken
-antigenAt line head since t book q day =
-    broken (codeBy IE false 4 t 2 t book q day) (pairBy IE (recOf line) 4 2 t 8 (recOf head) book q day)
+unfoldable pub ie4Antigen : Text → Text → Text → Text → Text → Sections → Day → Broken
+ie4Antigen line head since t book q day =
+    broken (codeBy IE false 4 t 2 t book q day) (rule11By IE (recOf line) 4 2 t 8 (recOf head) book q day)
     (cond (eqb (lowestIn IE false 4 t 0) 0 && any (antigenIs t) (recs since)) 12 0)
 
 -- II 4
-unfoldable pub typeAt : Text → Facts → Broken
-typeAt t facts = broken (lowestIn II false 4 t 0) (ledgerRule (facts .inb) t (facts .live)) 0
+unfoldable pub ii4Type : Text → Facts → Broken
+ii4Type t facts = broken (lowestIn II false 4 t 0) (rules16to18At (facts .inb) t (facts .live)) 0
 
 -- II 8
-unfoldable pub vaccineAt : Text → Text → Text → Text → Sections → Day → Facts → Broken
-vaccineAt t own first book q day facts =
+unfoldable pub ii8Vaccine : Text → Text → Text → Text → Sections → Day → Facts → Broken
+ii8Vaccine t own first book q day facts =
     broken (codeBy II false 8 t 1 t book q day)
     (cond (facts .joined && (countsSound (recs own) && (countsSound (recs first) && setsDiffer (recs own) (recs first)))) 13 0)
     (cond (facts .repeated) 15 0)
 
 -- II 9
-unfoldable pub siteAt : Rec → Bool → Text → Broken
-siteAt l relaxed t =
+unfoldable pub ii9Site : Rec → Bool → Text → Broken
+ii9Site l relaxed t =
     broken (lowestIn II relaxed 9 t (codeLater (isEmpty t) (isSite t) false))
-    (cond (siteWrong t (text l 10) && (isGiven II l 9 && isGiven II l 10)) 9 0) (lackBy l relaxed t 10)
+    (cond (siteWrong t (text l 10) && (isGiven II l 9 && isGiven II l 10)) 9 0) (rule10By l relaxed t 10)
 
 -- II 10
-unfoldable pub methodAt : Rec → Bool → Text → Broken
-methodAt l relaxed t =
+unfoldable pub ii10Method : Rec → Bool → Text → Broken
+ii10Method l relaxed t =
     broken (lowestIn II relaxed 10 t (codeLater (isEmpty t) (isMethod t) false))
-    (cond (methodWrong (text l 9) t && (isGiven II l 9 && isGiven II l 10)) 9 0) (lackBy l relaxed t 9)
+    (cond (methodWrong (text l 9) t && (isGiven II l 9 && isGiven II l 10)) 9 0) (rule10By l relaxed t 9)
 
 -- II 11, its reason as two bytes
-unfoldable pub reasonAt : Rec → Bool → Text → Text → Sections → Day → Broken
-reasonAt l relaxed t book q day =
-    broken (codeBy II relaxed 11 t 3 (pad 2 (reasonRead t)) book q day) (pairBy II l 11 3 (pad 2 (reasonRead t)) 7 l book q day) 0
+unfoldable pub ii11Reason : Rec → Bool → Text → Text → Sections → Day → Broken
+ii11Reason l relaxed t book q day =
+    broken (codeBy II relaxed 11 t 3 (pad 2 (reasonRead t)) book q day) (rule11By II l 11 3 (pad 2 (reasonRead t)) 7 l book q day) 0
 
 -- II 12
-unfoldable pub dosageAt : Rec → Bool → Text → Broken
-dosageAt l relaxed t = broken (lowestIn II relaxed 12 t 0) (lackBy l relaxed t 13) 0
+unfoldable pub ii12Dosage : Rec → Bool → Text → Broken
+ii12Dosage l relaxed t = broken (lowestIn II relaxed 12 t 0) (rule10By l relaxed t 13) 0
 
 -- II 13
-unfoldable pub dosageTypeAt : Rec → Bool → Text → Text → Sections → Day → Broken
-dosageTypeAt l relaxed t book q day = broken (codeBy II relaxed 13 t 5 t book q day) (lackBy l relaxed t 12) 0
+unfoldable pub ii13DosageType : Rec → Bool → Text → Text → Sections → Day → Broken
+ii13DosageType l relaxed t book q day = broken (codeBy II relaxed 13 t 5 t book q day) (rule10By l relaxed t 12) 0

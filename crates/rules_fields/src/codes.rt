@@ -11,7 +11,7 @@ ghost use Rattle.lines.specs.Records.{recOf};
 ghost use Rattle.book.specs.Book.{codeText};
 ghost use Rattle.rules_definitions.specs.Forms.{isGiven};
 ghost use Rattle.rules_fields.specs.Look.{knownBy, forceBy};
-ghost use Rattle.rules_fields.specs.Fields.{codeLater, codeBy, unpairedBy, pairBy};
+ghost use Rattle.rules_fields.specs.Fields.{codeLater, codeBy, unpairedBy, rule11By};
 
 // Whether the book has a code of a kind.
 fn is_known(book: &[u8], q: Sections, kind: u8, code: &[u8]) -> bool
@@ -25,7 +25,7 @@ fn is_known(book: &[u8], q: Sections, kind: u8, code: &[u8]) -> bool
 }
 
 // Rule 4 or 5 of a code that is given: not known, or out of force on a day that is sound.
-fn code_later(book: &[u8], q: Sections, kind: u8, code: &[u8], day: Day) -> u8
+fn rules4_and_5_code(book: &[u8], q: Sections, kind: u8, code: &[u8], day: Day) -> u8
     ensures { λ r. ⌜ r ≡ codeLater false (knownBy (now (book .entry)) q kind (codeText kind (now (code .entry)) [])) (day .sound && not (forceBy (now (book .entry)) q (day .number) kind (codeText kind (now (code .entry)) []))) ⌝ }
 {
     let s = book::look_up(book, q, kind, code, &code[..0], day.number);
@@ -49,7 +49,7 @@ fn pair_wrong(book: &[u8], q: Sections, kind: u8, a: &[u8], b: &[u8], day: Day) 
 }
 
 // The lowest of rules 1, 2, 4 and 5 at field f of a record of a kind, with text t, read as a code of a kind of the book.
-pub fn code_rule(
+pub fn code_field(
     kind: u8,
     relaxed: bool,
     f: usize,
@@ -62,14 +62,14 @@ pub fn code_rule(
 ) -> u8
     ensures { λ r. ⌜ r ≡ codeBy kind relaxed f (now (t .entry)) of (now (code .entry)) (now (book .entry)) q day ⌝ }
 {
-    let r = rules_forms::basic_rule(kind, relaxed, f, t);
+    let r = rules_forms::rules1_and_2(kind, relaxed, f, t);
     if r != 0 {
         return r;
     }
     if t.len() == 0 {
         return 0;
     }
-    code_later(book, q, of, code, day)
+    rules4_and_5_code(book, q, of, code, day)
 }
 
 // Whether field f of a line is given and its code is known.
@@ -111,7 +111,7 @@ fn is_unpaired(a: u8, kind: u8, line: &[u8], f: usize, t: &[u8]) -> bool
 
 // Rule 11 at field f of a line, with text t and the verdict a on its code: the pair of its code with the vaccine of its II, where both are known.
 // The pair is asked for first: most are in force.
-pub(crate) fn pair_rule(
+pub(crate) fn rule11_pair(
     a: u8,
     kind: u8,
     line: &[u8],
@@ -126,7 +126,7 @@ pub(crate) fn pair_rule(
     day: Day,
 ) -> u8
     requires { ⌜ (a ≡ 4 → knownBy (now book) q of (codeText of (now code) []) ≡ false) ⌝ }
-    ensures { λ r. ⌜ r ≡ pairBy kind (recOf (now (line .entry))) f of (now (code .entry)) pair (recOf (now (head .entry))) (now (book .entry)) q day ⌝ }
+    ensures { λ r. ⌜ r ≡ rule11By kind (recOf (now (line .entry))) f of (now (code .entry)) pair (recOf (now (head .entry))) (now (book .entry)) q day ⌝ }
 {
     if is_unpaired(a, kind, line, f, t) {
         return 0;

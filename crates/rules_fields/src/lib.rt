@@ -1,17 +1,17 @@
 // The later rules: those beyond rules 1 and 2, each where the fields that it reads are sound.
+mod by_field;
+mod by_rule;
 mod codes;
-mod fields;
-mod records;
 
-pub use codes::code_rule;
-pub use fields::antigen_at;
-pub use fields::dosage_at;
-pub use fields::dosage_type_at;
-pub use fields::method_at;
-pub use fields::reason_at;
-pub use fields::site_at;
-pub use fields::type_at;
-pub use fields::vaccine_at;
+pub use by_field::ie4_antigen;
+pub use by_field::ii4_type;
+pub use by_field::ii8_vaccine;
+pub use by_field::ii9_site;
+pub use by_field::ii10_method;
+pub use by_field::ii11_reason;
+pub use by_field::ii12_dosage;
+pub use by_field::ii13_dosage_type;
+pub use codes::code_field;
 
 // Up to three rules that are broken at a field, 0 for none.
 pub struct Broken {

@@ -17,7 +17,7 @@ use Rattle.lines.specs.Records.{Rec, recOf}
 use Rattle.lines_fields.proofs.FieldLaws.{fields-le}
 use Rattle.rules_definitions.specs.Forms.{anything, table, formOf, isJudged, isRelaxed, relaxedBy, isSound, isGiven}
 use Rattle.rules_forms.proofs.ClassLaws.{within-yes, within-low, within-high}
-use Rattle.rules_forms.specs.FieldLeaves.{refusedBy, optionalIn, lowestIn, soundAs}
+use Rattle.rules_forms.specs.FieldLeaves.{givenElsewhere, optionalIn, lowestIn, soundAs}
 use Rattle.rules_forms.proofs.FieldLaws.{text-is, field-is, relaxed-is, empty-true, empty-false, lowest-either, lowest-filled, sound-as, field-behind}
 use Rattle.rules_forms.proofs.SoundLaws.{given-by}
 
@@ -129,26 +129,26 @@ module _ (t : Text) (f s : ℕ) (e : s ≡ fieldsLen f t) where
   pub behind-is : take (length t - s) (drop s t) ≡ drop (fieldsLen f t) t
   behind-is = rw (← e) (rest t s)
 
-pub ruleset for-behind = (needs, behind-in, behind-is)
+pub ruleset for-after-fields = (needs, behind-in, behind-is)
 
 -- is_refused, relaxed
 module _ (r t : Text) (d : t ≡ fieldOf r 1) where
   module _ (h : length t ≡ 0) (w : Text) (g : w ≡ fieldOf r 2) where
-    pub refused-none : length w ≡ 0 → false ≡ refusedBy (fieldOf r 1) (fieldOf r 2)
-    unfolding refusedBy
+    pub refused-none : length w ≡ 0 → false ≡ givenElsewhere (fieldOf r 1) (fieldOf r 2)
+    unfolding givenElsewhere
     refused-none k = simp (← d, ← g, empty-true t h, empty-true w k)
 
-    pub refused-why : (length w ≡ 0 → ⊥) → true ≡ refusedBy (fieldOf r 1) (fieldOf r 2)
-    unfolding refusedBy
+    pub refused-why : (length w ≡ 0 → ⊥) → true ≡ givenElsewhere (fieldOf r 1) (fieldOf r 2)
+    unfolding givenElsewhere
     refused-why k = simp (← d, ← g, empty-true t h, empty-false w k)
 
   module _ (h : length t ≡ 0 → ⊥) (x : Bool) (e : x ≡ same t (65 ∷ 66 ∷ [])) where
-    pub refused-ab : x ≡ true → false ≡ refusedBy (fieldOf r 1) (fieldOf r 2)
-    unfolding refusedBy
+    pub refused-ab : x ≡ true → false ≡ givenElsewhere (fieldOf r 1) (fieldOf r 2)
+    unfolding givenElsewhere
     refused-ab k = simp (← d, empty-false t h, ← e, k)
 
-    pub refused-other : x ≡ false → true ≡ refusedBy (fieldOf r 1) (fieldOf r 2)
-    unfolding refusedBy
+    pub refused-other : x ≡ false → true ≡ givenElsewhere (fieldOf r 1) (fieldOf r 2)
+    unfolding givenElsewhere
     refused-other k = simp (← d, empty-false t h, ← e, k)
 
 pub ruleset for-refused = (needs, refused-none, refused-why, refused-ab, refused-other)
@@ -172,8 +172,8 @@ module _ (l v : Text) (a : v ≡ drop (fieldsLen 4 l) l) (t : Text) (d : t ≡ f
     unfolding relaxedBy
     relaxed-20 k = simp (field-is, is-fifth, ← e, n, is-last, empty-false u k)
 
-    pub relaxed-18 : (y : Bool) → length u ≡ 0 → y ≡ refusedBy (fieldOf r 1) (fieldOf r 2) → y ≡ relaxedBy (fieldsOf l)
-    unfolding relaxedBy refusedBy
+    pub relaxed-18 : (y : Bool) → length u ≡ 0 → y ≡ givenElsewhere (fieldOf r 1) (fieldOf r 2) → y ≡ relaxedBy (fieldsOf l)
+    unfolding relaxedBy givenElsewhere
     relaxed-18 y k p = simp (field-is, is-fifth, ← e, n, is-last, empty-true u k, later 0, later 1) p
 
 pub ruleset for-relaxed = (needs, relaxed-h, relaxed-20, relaxed-18)
@@ -291,4 +291,4 @@ module _ (l t : Text) (other : ℕ) where
   pub lacks-is : (x : Bool) → length t ≡ 0 → x ≡ isGiven 4 (recOf l) other → x ≡ isEmpty t && isGiven 4 (recOf l) other
   lacks-is x h e = rw (empty-true t h) e
 
-pub ruleset for-lacks = (needs, lacks-not, lacks-is)
+pub ruleset for-rule10-lacks = (needs, lacks-not, lacks-is)

@@ -15,7 +15,7 @@ ghost use lib.ListN.{drop};
 ghost use Rattle.lines_fields.specs.Lines.{fieldsOf, fieldOf, fieldsLen};
 ghost use Rattle.lines.specs.Records.{recOf};
 ghost use Rattle.rules_definitions.specs.Forms.{formOf, isJudged, relaxedBy, isRelaxed, isSound, isGiven};
-ghost use Rattle.rules_forms.specs.FieldLeaves.{refusedBy, optionalIn, lowestIn, soundAs};
+ghost use Rattle.rules_forms.specs.FieldLeaves.{givenElsewhere, optionalIn, lowestIn, soundAs};
 
 // The form of field f of an IH.
 fn form_ih(f: usize, t: &[u8]) -> bool
@@ -157,7 +157,7 @@ fn is_judged(kind: u8, f: usize) -> bool
 }
 
 // A line's text behind its first f fields.
-pub fn behind(text: &[u8], f: usize) -> &[u8]
+pub fn after_fields(text: &[u8], f: usize) -> &[u8]
     ensures { λ r. ⌜ now r ≡ drop (fieldsLen f (now (text .entry))) (now (text .entry)) ⌝ }
 {
     let start = lines_fields::field_start(text, f);
@@ -165,8 +165,8 @@ pub fn behind(text: &[u8], f: usize) -> &[u8]
 }
 
 // Whether II 18 and 19, the first two fields of the rest of a line, relax an event.
-fn is_refused(rest: &[u8]) -> bool
-    ensures { λ r. ⌜ r ≡ refusedBy (fieldOf (now (rest .entry)) 1) (fieldOf (now (rest .entry)) 2) ⌝ }
+fn is_given_elsewhere(rest: &[u8]) -> bool
+    ensures { λ r. ⌜ r ≡ givenElsewhere (fieldOf (now (rest .entry)) 1) (fieldOf (now (rest .entry)) 2) ⌝ }
 {
     let t = lines_fields::field_of(rest, 1);
     if t.len() == 0 {
@@ -183,13 +183,13 @@ fn is_refused(rest: &[u8]) -> bool
 pub fn relaxed(line: &[u8]) -> bool
     ensures { λ r. ⌜ r ≡ relaxedBy (fieldsOf (now (line .entry))) ⌝ }
 {
-    let fifth = behind(line, 4);
+    let fifth = after_fields(line, 4);
     if house::same(lines_fields::field_of(fifth, 1), b"H") {
         return true;
     }
-    let rest = behind(fifth, 13);
+    let rest = after_fields(fifth, 13);
     if lines_fields::field_of(rest, 3).len() == 0 {
-        is_refused(rest)
+        is_given_elsewhere(rest)
     } else {
         true
     }
@@ -213,7 +213,7 @@ fn is_optional(kind: u8, relaxed: bool, f: usize) -> bool
 }
 
 // Which of rules 1 and 2 is broken at field f of a record of a kind, by the field's text; 0 for neither.
-pub fn basic_rule(kind: u8, relaxed: bool, f: usize, t: &[u8]) -> u8
+pub fn rules1_and_2(kind: u8, relaxed: bool, f: usize, t: &[u8]) -> u8
     ensures { λ r. ⌜ r ≡ lowestIn kind relaxed f (now (t .entry)) 0 ⌝ }
 {
     if t.len() != 0 {
@@ -249,7 +249,7 @@ pub fn sound_text(kind: u8, line: &[u8], f: usize, t: &[u8]) -> bool
     ensures { λ r. ⌜ r ≡ soundAs kind (recOf (now (line .entry))) f (now (t .entry)) ⌝ }
 {
     let loose = relaxed_at(kind, line, f, t);
-    basic_rule(kind, loose, f, t) == 0
+    rules1_and_2(kind, loose, f, t) == 0
 }
 
 // Whether field f of a line is sound: rules 1 and 2 find nothing in it.
@@ -271,7 +271,7 @@ pub fn is_given(kind: u8, line: &[u8], f: usize) -> bool
 }
 
 // Rule 10: whether this text of a field of an II is empty and the other field given.
-pub fn lacks(line: &[u8], t: &[u8], other: usize) -> bool
+pub fn rule10_lacks(line: &[u8], t: &[u8], other: usize) -> bool
     ensures { λ r. ⌜ r ≡ (isEmpty (now (t .entry)) && isGiven 4 (recOf (now (line .entry))) other) ⌝ }
 {
     if t.len() == 0 {

@@ -4,12 +4,12 @@ mod classes;
 mod fields;
 mod texts;
 
-pub use fields::basic_rule;
-pub use fields::behind;
+pub use fields::after_fields;
 pub use fields::is_given;
 pub use fields::is_sound;
-pub use fields::lacks;
 pub use fields::relaxed;
+pub use fields::rule10_lacks;
+pub use fields::rules1_and_2;
 pub use fields::sound_text;
 pub use texts::is_code;
 pub use texts::is_count;

@@ -154,7 +154,7 @@ module _ (a b : List Rec) (x : Bool) (e : x ≡ all (countIn b) a) where
     unfolding setsDiffer allIn countIn
     differ-not k = rw (← e, h, ← f, k)
 
-pub ruleset for-sets-differ = (needs, step-same, differ-first, differ-second, differ-not)
+pub ruleset for-rule13-sets-differ = (needs, step-same, differ-first, differ-second, differ-not)
 
 module _ (l : Rec) (x : Bool) (e : x ≡ isSound 5 l 4) where
   pub sound-not : x ≡ false → false ≡ soundCount l

@@ -2,7 +2,7 @@
 use lines::IE;
 use lines::II;
 use lines_fields::field_from;
-use rules_forms::behind;
+use rules_forms::after_fields;
 use rules_forms::is_count;
 use rules_forms::is_sound;
 use rules_forms::sound_text;
@@ -21,7 +21,7 @@ fn has_antigen(line: &[u8], t: &[u8]) -> bool
 }
 
 // Rule 12: whether one of these lines gives this antigen.
-pub fn any_antigen(t: &[u8], since: &[u8]) -> bool
+pub fn rule12_any_antigen(t: &[u8], since: &[u8]) -> bool
     ensures { λ r. ⌜ r ≡ any (antigenIs (now (t .entry))) (recs (now (since .entry))) ⌝ }
 {
     let mut at = 0;
@@ -52,7 +52,7 @@ fn has_lot(line: &[u8], t: &[u8]) -> bool
 }
 
 // Rule 14: whether an II among the block's lines has this lot.
-pub fn any_lot(t: &[u8], block: &[u8]) -> bool
+pub fn rule14_any_lot(t: &[u8], block: &[u8]) -> bool
     ensures { λ r. ⌜ r ≡ any (lotIs (now (t .entry))) (recs (now (block .entry))) ⌝ }
 {
     let mut at = 0;
@@ -78,9 +78,9 @@ fn dose_of(t: &[u8]) -> u32
 fn has_count(line: &[u8], t: &[u8], dose: u32) -> bool
     ensures { λ r. ⌜ r ≡ countIs (now (t .entry)) dose (recOf (now (line .entry))) ⌝ }
 {
-    let fourth = behind(line, 3);
+    let fourth = after_fields(line, 3);
     if house::same(t, field_from(fourth, 0)) {
-        dose == dose_of(field_from(behind(fourth, 1), 0))
+        dose == dose_of(field_from(after_fields(fourth, 1), 0))
     } else {
         false
     }
@@ -106,8 +106,8 @@ fn any_count(t: &[u8], dose: u32, others: &[u8]) -> bool
 fn count_among(line: &[u8], others: &[u8]) -> bool
     ensures { λ r. ⌜ r ≡ countIn (recs (now (others .entry))) (recOf (now (line .entry))) ⌝ }
 {
-    let fourth = behind(line, 3);
-    let dose = dose_of(field_from(behind(fourth, 1), 0));
+    let fourth = after_fields(line, 3);
+    let dose = dose_of(field_from(after_fields(fourth, 1), 0));
     any_count(field_from(fourth, 0), dose, others)
 }
 
@@ -132,8 +132,8 @@ fn all_counted(ps: &[u8], others: &[u8]) -> bool
 fn counts_alike(line: &[u8], other: &[u8]) -> bool
     ensures { λ r. ⌜ r ≡ sameCount (recOf (now (line .entry))) (recOf (now (other .entry))) ⌝ }
 {
-    let fourth = behind(line, 3);
-    let dose = dose_of(field_from(behind(fourth, 1), 0));
+    let fourth = after_fields(line, 3);
+    let dose = dose_of(field_from(after_fields(fourth, 1), 0));
     has_count(other, field_from(fourth, 0), dose)
 }
 
@@ -162,7 +162,7 @@ fn in_step(own: &[u8], first: &[u8]) -> bool
 }
 
 // Rule 13: whether the antigens with counts of these lines are not one set. Lines in step are one set, and one walk shows it.
-pub fn sets_differ(own: &[u8], first: &[u8]) -> bool
+pub fn rule13_sets_differ(own: &[u8], first: &[u8]) -> bool
     ensures { λ r. ⌜ r ≡ setsDiffer (recs (now (own .entry))) (recs (now (first .entry))) ⌝ }
 {
     if in_step(own, first) {
@@ -187,7 +187,7 @@ fn count_sound(line: &[u8]) -> bool
 }
 
 // Rule 13: whether the antigens and counts of all these lines are sound.
-pub fn counts_sound(ps: &[u8]) -> bool
+pub fn rule13_counts_sound(ps: &[u8]) -> bool
     ensures { λ r. ⌜ r ≡ countsSound (recs (now (ps .entry))) ⌝ }
 {
     let mut at = 0;

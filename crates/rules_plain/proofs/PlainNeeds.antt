@@ -59,9 +59,9 @@ module _ (n place : ℕ) where
 pub number-by : (t : Text) (n place q : ℕ) → n ≡ valueOf t → q ≡ numberLater n place → q ≡ numberLater (valueOf t) place
 number-by t n place q e h = rw (← e) h
 
-pub ruleset for-number-later = (needs, number-right, number-wrong)
+pub ruleset for-rule7-number = (needs, number-right, number-wrong)
 
-pub ruleset for-number-rule = (needs, rule-broken, rule-later, number-by)
+pub ruleset for-field2-number = (needs, rule-broken, rule-later, number-by)
 
 -- uli_later
 module _ (t p u : Text) (f : u ≡ fieldOf p 3) (y : Bool) (g : y ≡ same t u) where
@@ -82,7 +82,7 @@ module _ (t p u : Text) (f : u ≡ fieldOf p 3) (y : Bool) (g : y ≡ same t u) 
     unfolding uliLater
     uli-other k = rw (ip-3 (recOf p), text-is p 3, ← f, ← e, k, ← g, h)
 
-pub ruleset for-uli-later = (needs, uli-unsound, uli-same, uli-other)
+pub ruleset for-rule6-uli = (needs, uli-unsound, uli-same, uli-other)
 
 -- day_later, born, date_later
 module _ (t : Text) (d : Dated) (e : d ≡ datedOf t) where
@@ -139,9 +139,9 @@ module _ (p t : Text) (f : t ≡ fieldOf p 25) (d : Dated) (e : d ≡ datedOf t)
   unfolding bornOf
   born-none h = rw (ip-25 (recOf p), text-is p 25, ← f, dated-false t (sym e ∙ h))
 
-pub ruleset for-day-later = (needs, day-after, day-right, day-none)
+pub ruleset for-rule8-after-today = (needs, day-after, day-right, day-none)
 
-pub ruleset for-date-later = (needs, date-after, date-before, date-right, date-none)
+pub ruleset for-rule8-date = (needs, date-after, date-before, date-right, date-none)
 
 pub ruleset for-born = (needs, born-day, born-none)
 
@@ -155,7 +155,7 @@ module _ (t : Text) (x : Bool) (e : x ≡ same t (55 ∷ 46 ∷ 50 ∷ [])) wher
   unfolding versionLater
   version-wrong h = rw (← e, h)
 
-pub ruleset for-version-later = (needs, version-right, version-wrong)
+pub ruleset for-rule3-version = (needs, version-right, version-wrong)
 
 -- lot_later
 module _ (t : Text) (ps : List Rec) (x : Bool) (e : x ≡ any (lotIs t) ps) where
@@ -167,4 +167,4 @@ module _ (t : Text) (ps : List Rec) (x : Bool) (e : x ≡ any (lotIs t) ps) wher
   unfolding lotLater
   lot-once h = rw (← e, h)
 
-pub ruleset for-lot-later = (needs, lot-twice, lot-once)
+pub ruleset for-rule14-lot-again = (needs, lot-twice, lot-once)

@@ -2,10 +2,10 @@
 use lines::II;
 use lines::IP;
 use lines::IV;
-use rules_forms::basic_rule;
 use rules_forms::is_uli;
+use rules_forms::rules1_and_2;
 use rules_forms::value;
-use rules_lists::any_lot;
+use rules_lists::rule14_any_lot;
 ghost use mathlib.Core.Bool.{false};
 ghost use mathlib.Core.Path.{_≡_};
 ghost use Rattle.lines.specs.Records.{recOf, recs};
@@ -14,25 +14,25 @@ ghost use Rattle.rules_forms.specs.FieldLeaves.{lowestIn};
 ghost use Rattle.rules_plain.specs.PlainFields.{numberLater, uliLater, dayLater, bornOf, dateLater, versionLater, lotLater};
 
 // Rule 7, of a number and its place.
-fn number_later(n: u32, place: usize) -> u8
+fn rule7_number(n: u32, place: usize) -> u8
     ensures { λ r. ⌜ r ≡ numberLater n place ⌝ }
 {
     if n as usize == place { 0 } else { 7 }
 }
 
 // Field 2: rules 1, 2 and 7. The place is the line's among IP, II, IE, IN and IA lines, from 1.
-pub fn number_rule(kind: u8, t: &[u8], place: usize) -> u8
+pub fn field2_number(kind: u8, t: &[u8], place: usize) -> u8
     ensures { λ r. ⌜ r ≡ lowestIn kind false 2 (now (t .entry)) (numberLater (valueOf (now (t .entry))) place) ⌝ }
 {
-    let r = basic_rule(kind, false, 2, t);
+    let r = rules1_and_2(kind, false, 2, t);
     if r != 0 {
         return r;
     }
-    number_later(value(t), place)
+    rule7_number(value(t), place)
 }
 
 // Rule 6, of a ULI and the IP.
-fn uli_later(t: &[u8], ip: &[u8]) -> u8
+fn rule6_uli(t: &[u8], ip: &[u8]) -> u8
     ensures { λ r. ⌜ r ≡ uliLater (now (t .entry)) (recOf (now (ip .entry))) ⌝ }
 {
     let uli = lines_fields::field_of(ip, 3);
@@ -43,18 +43,18 @@ fn uli_later(t: &[u8], ip: &[u8]) -> u8
 }
 
 // Field 3 of a line below an IP: rules 1, 2 and 6.
-pub fn uli_rule(kind: u8, t: &[u8], ip: &[u8]) -> u8
+pub fn field3_uli(kind: u8, t: &[u8], ip: &[u8]) -> u8
     ensures { λ r. ⌜ r ≡ lowestIn kind false 3 (now (t .entry)) (uliLater (now (t .entry)) (recOf (now (ip .entry)))) ⌝ }
 {
-    let r = basic_rule(kind, false, 3, t);
+    let r = rules1_and_2(kind, false, 3, t);
     if r != 0 {
         return r;
     }
-    uli_later(t, ip)
+    rule6_uli(t, ip)
 }
 
 // Rule 8, of a date and today.
-fn day_later(t: &[u8], today: u32) -> u8
+fn rule8_after_today(t: &[u8], today: u32) -> u8
     ensures { λ r. ⌜ r ≡ dayLater (now (t .entry)) today ⌝ }
 {
     let d = dates::Date::of(t);
@@ -65,14 +65,14 @@ fn day_later(t: &[u8], today: u32) -> u8
 }
 
 // IP 25: rules 1, 2 and 8.
-pub fn day_rule(t: &[u8], today: u32) -> u8
+pub fn ip25_birth(t: &[u8], today: u32) -> u8
     ensures { λ r. ⌜ r ≡ lowestIn 3 false 25 (now (t .entry)) (dayLater (now (t .entry)) today) ⌝ }
 {
-    let r = basic_rule(IP, false, 25, t);
+    let r = rules1_and_2(IP, false, 25, t);
     if r != 0 {
         return r;
     }
-    day_later(t, today)
+    rule8_after_today(t, today)
 }
 
 // The day of birth that an IP gives, 0 where it gives none.
@@ -87,7 +87,7 @@ pub fn born(ip: &[u8]) -> u32
 }
 
 // Rule 8, of a date, today and the day of birth.
-fn date_later(t: &[u8], today: u32, born: u32) -> u8
+fn rule8_date(t: &[u8], today: u32, born: u32) -> u8
     ensures { λ r. ⌜ r ≡ dateLater (now (t .entry)) today born ⌝ }
 {
     let d = dates::Date::of(t);
@@ -104,48 +104,48 @@ fn date_later(t: &[u8], today: u32, born: u32) -> u8
 }
 
 // II 6, IN 5: rules 1, 2 and 8.
-pub fn date_rule(kind: u8, f: usize, t: &[u8], today: u32, born: u32) -> u8
+pub fn ii6_in5_date(kind: u8, f: usize, t: &[u8], today: u32, born: u32) -> u8
     ensures { λ r. ⌜ r ≡ lowestIn kind false f (now (t .entry)) (dateLater (now (t .entry)) today born) ⌝ }
 {
-    let r = basic_rule(kind, false, f, t);
+    let r = rules1_and_2(kind, false, f, t);
     if r != 0 {
         return r;
     }
-    date_later(t, today, born)
+    rule8_date(t, today, born)
 }
 
 // Rule 3, of a version.
-fn version_later(t: &[u8]) -> u8
+fn rule3_version(t: &[u8]) -> u8
     ensures { λ r. ⌜ r ≡ versionLater (now (t .entry)) ⌝ }
 {
     if house::same(t, b"7.2") { 0 } else { 3 }
 }
 
 // IV 2: rules 1 and 3.
-pub fn version_rule(t: &[u8]) -> u8
+pub fn iv2_version(t: &[u8]) -> u8
     ensures { λ r. ⌜ r ≡ lowestIn 1 false 2 (now (t .entry)) (versionLater (now (t .entry))) ⌝ }
 {
-    let r = basic_rule(IV, false, 2, t);
+    let r = rules1_and_2(IV, false, 2, t);
     if r != 0 {
         return r;
     }
-    version_later(t)
+    rule3_version(t)
 }
 
 // Rule 14, of a lot and lines before it.
-fn lot_later(t: &[u8], block: &[u8]) -> u8
+fn rule14_lot_again(t: &[u8], block: &[u8]) -> u8
     ensures { λ r. ⌜ r ≡ lotLater (now (t .entry)) (recs (now (block .entry))) ⌝ }
 {
-    if any_lot(t, block) { 14 } else { 0 }
+    if rule14_any_lot(t, block) { 14 } else { 0 }
 }
 
 // II 15: rules 1, 2 and 14. The block is its lines before this one.
-pub fn lot_rule(relaxed: bool, t: &[u8], block: &[u8]) -> u8
+pub fn ii15_lot(relaxed: bool, t: &[u8], block: &[u8]) -> u8
     ensures { λ r. ⌜ r ≡ lowestIn 4 relaxed 15 (now (t .entry)) (lotLater (now (t .entry)) (recs (now (block .entry)))) ⌝ }
 {
-    let r = basic_rule(II, relaxed, 15, t);
+    let r = rules1_and_2(II, relaxed, 15, t);
     if r != 0 {
         return r;
     }
-    lot_later(t, block)
+    rule14_lot_again(t, block)
 }

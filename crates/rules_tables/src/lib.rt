@@ -120,7 +120,7 @@ fn without(x: &[u8], a: &[u8], y: &[u8], b: &[u8]) -> bool
 }
 
 // Rule 9 at II 9: method PO without site MO, or IN without NO.
-pub fn site_wrong(site: &[u8], method: &[u8]) -> bool
+pub fn rule9_site_wrong(site: &[u8], method: &[u8]) -> bool
     ensures { λ r. ⌜ r ≡ siteWrong (now (site .entry)) (now (method .entry)) ⌝ }
 {
     if without(method, b"PO", site, b"MO") {
@@ -130,7 +130,7 @@ pub fn site_wrong(site: &[u8], method: &[u8]) -> bool
 }
 
 // Rule 9 at II 10: site MO without method PO, or NO without IN.
-pub fn method_wrong(site: &[u8], method: &[u8]) -> bool
+pub fn rule9_method_wrong(site: &[u8], method: &[u8]) -> bool
     ensures { λ r. ⌜ r ≡ methodWrong (now (site .entry)) (now (method .entry)) ⌝ }
 {
     if without(site, b"MO", method, b"PO") {

@@ -12,7 +12,7 @@ use lib.Dec.{T, ltb}
 use lib.ListN.{length, getD, drop}
 use Rattle.house.specs.declared.Order.the-variants.{Less, Same, More}
 use Rattle.house.specs.Text.{Text, any, same, below}
-use Rattle.house.specs.Search.{halve}
+use Rattle.house.specs.Search.{binarySearch}
 use Rattle.house.proofs.Small.{clash}
 use Rattle.house.proofs.Facts.{both, both-of, left-of, right-of, is-true, of-true}
 use Rattle.house.proofs.OrderAlgebra.{flip}
@@ -218,7 +218,7 @@ module _ (f : Text) (e : Event) (b : ℕ) where
 
   found-any : (xs : List ℕ) → Ordered (eventAt f) xs → foundBefore f xs e b ≡ any sought xs
   unfolding foundBefore
-  found-any xs o = go (halve (λ (i : ℕ). standing f e b (getD xs i 0)) (λ (i : ℕ). true) false (length xs) 0 (length xs)) (climb-decides (λ (i : ℕ). standing f e b (getD xs i 0)) (λ (i : ℕ). true) false (length xs) (climbs xs o))
+  found-any xs o = go (binarySearch (λ (i : ℕ). standing f e b (getD xs i 0)) (λ (i : ℕ). true) false (length xs) 0 (length xs)) (climb-decides (λ (i : ℕ). standing f e b (getD xs i 0)) (λ (i : ℕ). true) false (length xs) (climbs xs o))
     where
       go : (x : Bool) → Decides (λ (i : ℕ). standing f e b (getD xs i 0)) (λ (i : ℕ). true) false (length xs) x → x ≡ any sought xs
       go x (hit m h s i) = i ∙ sym (is-true (any sought xs) (at-any sought xs m h (same-stands (getD xs m 0) s)))

@@ -58,4 +58,4 @@ module _ (f : Text) (ps : List ℕ) (e : Text) (b : ℕ) (x : Bool) (lo hi : ℕ
     pub seeks-hit : o ≡ Same → true ≡ x
     seeks-hit z = turn-hit (λ (i : ℕ). standing f e b (getD ps i 0)) (λ (i : ℕ). true) false x lo hi inv h o (sym c) z
 
-pub ruleset for-names-before = (needs, seeks-start, seeks-end, seeks-up, seeks-down, seeks-hit)
+pub ruleset for-rule15-named-before = (needs, seeks-start, seeks-end, seeks-up, seeks-down, seeks-hit)

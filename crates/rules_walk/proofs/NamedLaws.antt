@@ -22,7 +22,7 @@ use Rattle.lines_places.specs.Events as events
 use Rattle.lines_places.specs.Events.{eventAt}
 use Rattle.ledger.specs.Ledger.{Event}
 use Rattle.rules_definitions.specs.Forms.{fieldIn, text}
-use Rattle.rules_definitions.specs.Places.{noRec}
+use Rattle.rules_definitions.specs.Contexts.{noRec}
 use Rattle.rules_definitions.specs.Blocks.{isInBlock, eventOf, sameEvent, joins, nearestOf, blockIn, openAfter, joinsOpen, begins, beforeOpen, beforeBlock, isRepeated}
 use Rattle.rules_definitions.proofs.BlockLaws.{named, uli-length, date-length, code-says}
 use Rattle.rules_walk.specs.Firsts.{startAfter, namedBefore}

@@ -19,7 +19,7 @@ use Rattle.lines_places.specs.Events.{eventAt, eventsAt, ascends}
 use Rattle.lines_places.specs.Inside.{Lt, Asc}
 use Rattle.lines_places.proofs.Order.{all-at}
 use Rattle.lines_places.proofs.SortedLaws.{ascends-asc}
-use Rattle.rules_definitions.specs.Places.{Place, placesIn}
+use Rattle.rules_definitions.specs.Contexts.{Context, contextsIn}
 use Rattle.rules_definitions.specs.Blocks.{isInBlock, eventOf, joins, nearestOf, blockIn, openAfter, begins, beforeOpen, beforeBlock, isRepeated}
 use Rattle.rules_walk.specs.Firsts.{startAfter, indexOf, namedBefore}
 use Rattle.rules_walk.specs.Inside.{Passed, firstsFrom, firstsIn}
@@ -131,5 +131,5 @@ module _ (f : Text) where
             (of-true (namedBefore f (startAfter f (beforeBlock l before)) (eventAt f (startAfter f (beforeBlock l before)))) (ap (namedBefore f (startAfter f (beforeBlock l before))) (o .1) ∙ q)))
 
     -- no line of the file is repeated
-    pub once-clean : (h : Place) → In h (placesIn f) → isRepeated (h .line) (h .before) ≡ false
+    pub once-clean : (h : Context) → In h (contextsIn f) → isRepeated (h .line) (h .before) ≡ false
     once-clean h m = once-new (h .line) (h .before) (place-passed f h m)

@@ -17,7 +17,7 @@ use Rattle.lines_fields.specs.Lines.{lineOf, lineLen, linesLen}
 use Rattle.lines.specs.Records.{Rec, recOf, recs, read}
 use Rattle.lines_fields.proofs.LineLaws.{line-pos, lines-step}
 use Rattle.lines.proofs.PartLaws.{recs-past}
-use Rattle.rules_definitions.specs.Places.{Place, placesFrom, placesOf, placesIn}
+use Rattle.rules_definitions.specs.Contexts.{Context, contextsFrom, contextsOf, contextsIn}
 use Rattle.rules_definitions.specs.Blocks.{begins}
 use Rattle.rules_walk.specs.Firsts.{startAfter, isFirst, startOf, firstsOf}
 use Rattle.rules_walk.specs.Inside.{recAt, nextLine, Passed, firstsFrom, firstsIn}
@@ -88,15 +88,15 @@ module _ (f : Text) (before : List Rec) (l : Rec) (ls : List Rec) (e : l ∷ ls 
   ahead-rest = cc both-are
 
 -- the lines of a file, each with those before it
-passed-all : (f : Text) (n : ℕ) (before ls : List Rec) → Passed f before → ls ≡ recs (drop (startAfter f before) f) → (h : Place) → In h (placesFrom n before ls)
+passed-all : (f : Text) (n : ℕ) (before ls : List Rec) → Passed f before → ls ≡ recs (drop (startAfter f before) f) → (h : Context) → In h (contextsFrom n before ls)
     → Passed f (h .line ∷ h .before)
 passed-all f n before [] p e h m = absurd m
-passed-all f n before (l ∷ ls) p e h (inl i) = subst (λ (k : Place). Passed f (k .line ∷ k .before)) (sym i) (ahead-in f before l ls e, ahead-first f before l ls e, p)
+passed-all f n before (l ∷ ls) p e h (inl i) = subst (λ (k : Context). Passed f (k .line ∷ k .before)) (sym i) (ahead-in f before l ls e, ahead-first f before l ls e, p)
 passed-all f n before (l ∷ ls) p e h (inr m) =
     passed-all f (suc n) (l ∷ before) ls (ahead-in f before l ls e, ahead-first f before l ls e, p) (ahead-rest f before l ls e) h m
 
-pub place-passed : (f : Text) (h : Place) → In h (placesIn f) → Passed f (h .line ∷ h .before)
-unfolding placesIn placesOf linesLen
+pub place-passed : (f : Text) (h : Context) → In h (contextsIn f) → Passed f (h .line ∷ h .before)
+unfolding contextsIn contextsOf linesLen
 place-passed f h m = passed-all f 1 [] (recs f) tt refl h m
 
 -- the first II lines ahead: that of the line at hand, if it is one, and those behind it
@@ -105,15 +105,15 @@ pub firsts-on : (f : Text) (before : List Rec) (l : Rec) (ls : List Rec)
 unfolding firstsFrom
 firsts-on f before l ls = go (begins l before)
   where
-    rest : List Place
-    rest = those isFirst (placesFrom (suc (suc (length before))) (l ∷ before) ls)
+    rest : List Context
+    rest = those isFirst (contextsFrom (suc (suc (length before))) (l ∷ before) ls)
 
     go : (b : Bool) → map (startOf f) (cond b (record { number = suc (length before); before = before; line = l; after = ls } ∷ rest) rest) ≡ cond b (startAfter f before ∷ map (startOf f) rest) (map (startOf f) rest)
     go true = refl
     go false = refl
 
 pub firsts-start : (f : Text) → firstsOf f ≡ firstsFrom f [] (recs f)
-unfolding firstsOf firstsFrom placesIn placesOf
+unfolding firstsOf firstsFrom contextsIn contextsOf
 firsts-start f = refl
 
 pub firsts-none : (f : Text) (before : List Rec) (p : ℕ) → length f ≤ p → firstsFrom f before (recs (drop p f)) ≡ []

@@ -18,7 +18,7 @@ use Rattle.lines.specs.Inside.{RightFrom, RightLine}
 use Rattle.lines_fields.proofs.LineLaws.{line-le, lines-step, ended-is}
 use Rattle.lines.proofs.ShapeLaws.{right-line, right-start}
 use Rattle.rules_definitions.specs.Forms.{fieldIn, text}
-use Rattle.rules_definitions.specs.Places.{Place, placesFrom, placesOf, placesIn}
+use Rattle.rules_definitions.specs.Contexts.{Context, contextsFrom, contextsOf, contextsIn}
 use Rattle.rules_definitions.specs.Blocks.{isInBlock, begins}
 use Rattle.rules_definitions.proofs.BlockLaws.{named}
 use Rattle.rules_walk.specs.Firsts.{isFirst, startOf, firstsOf}
@@ -160,7 +160,7 @@ module _ (s : Text) (p : ℕ) (r : RightLine p (lineOf s)) where
 -- 3. Bytes of lines without fault
 
 abbrev Fits : Text → Type 0
-Fits s = (n p : ℕ) (before : List Rec) → RightFrom p (linesOf s) → 52 * length (those isFirst (placesFrom n before (recs s))) + slack p ≤ length s
+Fits s = (n p : ℕ) (before : List Rec) → RightFrom p (linesOf s) → 52 * length (those isFirst (contextsFrom n before (recs s))) + slack p ≤ length s
 
 fits-none : Fits []
 unfolding RightFrom recs linesOf
@@ -173,8 +173,8 @@ fits-on s h rec n p before r = rw (recs-first s h) (go (begins l before) refl)
     l : Rec
     l = recOf (lineOf s .text)
 
-    rest : List Place
-    rest = those isFirst (placesFrom (suc n) (l ∷ before) (recs (drop (lineLen s) s)))
+    rest : List Context
+    rest = those isFirst (contextsFrom (suc n) (l ∷ before) (recs (drop (lineLen s) s)))
 
     all : RightFrom p (lineOf s ∷ linesOf (drop (lineLen s) s))
     all = subst (RightFrom p) (lines-step s h) r
@@ -196,10 +196,10 @@ fits-on s h rec n p before r = rw (recs-first s h) (go (begins l before) refl)
 
 -- 52 bytes at least for each block
 pub blocks-size : (f : Text) → shapeOf f ≡ Right → 52 * length (firstsOf f) ≤ length f
-unfolding firstsOf placesIn placesOf
+unfolding firstsOf contextsIn contextsOf
 blocks-size f r =
     let q = by-lines Fits fits-none fits-on f 1 0 [] (right-start f r) in
-    rw (length-map (those isFirst (placesFrom 1 [] (recs f))) (startOf f)) (omega (arith, q))
+    rw (length-map (those isFirst (contextsFrom 1 [] (recs f))) (startOf f)) (omega (arith, q))
 
 -- no more blocks than there is room to sort
 pub capacity : (f : Text) → shapeOf f ≡ Right → length f ≤ 5000000 → length (firstsOf f) ≤ 96154

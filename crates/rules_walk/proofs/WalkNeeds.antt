@@ -19,7 +19,7 @@ use Rattle.lines_fields.proofs.LineLaws.{lines-past, at-next, at-text, at-from,
 use Rattle.lines_places.specs.Events.{eventsAt, ascends}
 use Rattle.lines_places.specs.Sorted.{canSort, sortedAt, sortedApart}
 use Rattle.rules_forms.proofs.FieldLaws.{kind-is}
-use Rattle.rules_definitions.specs.Places.{noRec}
+use Rattle.rules_definitions.specs.Contexts.{noRec}
 use Rattle.rules_definitions.specs.Blocks.{isInBlock, joins, nearestOf, blockIn, openAfter, begins}
 use Rattle.rules_walk.specs.declared.Built.the-variants.{Blocks, TooMany}
 use Rattle.rules_walk.specs.declared.Turn.{Turn}

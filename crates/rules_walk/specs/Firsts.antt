@@ -8,13 +8,13 @@ use lib.Dec.{ltb, leb}
 use Rattle.house.specs.declared.Order.{Order}
 use Rattle.house.specs.declared.Order.the-variants.{Less, Same, More}
 use Rattle.house.specs.Text.{Text, any, those, same, orderOf}
-use Rattle.house.specs.Search.{byOrder, halve}
+use Rattle.house.specs.Search.{byOrder, binarySearch}
 use Rattle.lines_fields.specs.Lines.{lineOf, fieldOf, linesLen}
 use Rattle.lines.specs.Records.{Rec}
 use Rattle.lines_places.specs.Events.{eventAt, eventsAt, ascends}
 use Rattle.lines_places.specs.Sorted.{place, placesMost}
 use Rattle.ledger.specs.Ledger.{Event}
-use Rattle.rules_definitions.specs.Places.{Place, placesIn}
+use Rattle.rules_definitions.specs.Contexts.{Context, contextsIn}
 use Rattle.rules_definitions.specs.Blocks.{begins}
 use Rattle.rules_walk.specs.declared.Built.{Built}
 use Rattle.rules_walk.specs.declared.Built.the-variants.{Blocks, TooMany}
@@ -24,16 +24,16 @@ abbrev pub startAfter : Text → List Rec → ℕ
 startAfter f before = linesLen (length before) f
 
 -- the line is the first II of a block
-abbrev pub isFirst : Place → Bool
+abbrev pub isFirst : Context → Bool
 isFirst h = begins (h .line) (h .before)
 
 -- where a line starts
-abbrev pub startOf : Text → Place → ℕ
+abbrev pub startOf : Text → Context → ℕ
 startOf f h = startAfter f (h .before)
 
 -- where the first II line of each block starts, in the file's order
 unfoldable pub firstsOf : Text → List ℕ
-firstsOf f = map (startOf f) (those isFirst (placesIn f))
+firstsOf f = map (startOf f) (those isFirst (contextsIn f))
 
 -- the index: these, in the order of their events; those of one event in the file's order
 unfoldable pub indexOf : Text → List ℕ
@@ -88,4 +88,4 @@ standing f e b p = byOrder (orderOf (eventAt f p) e) Less (cond (ltb p b) Same M
 -- what halving an index finds. Of the index of the file it is whether a first II line that starts before b names the event.
 unfoldable pub foundBefore : Text → List ℕ → Event → ℕ → Bool
 foundBefore f index e b =
-    halve (λ (i : ℕ). standing f e b (getD index i 0)) (λ (i : ℕ). true) false (length index) 0 (length index)
+    binarySearch (λ (i : ℕ). standing f e b (getD index i 0)) (λ (i : ℕ). true) false (length index) 0 (length index)

@@ -9,7 +9,7 @@ use lib.ListN.{length, drop}
 use Rattle.house.specs.Text.{Text, those}
 use Rattle.lines_fields.specs.Lines.{lineOf, lineLen}
 use Rattle.lines.specs.Records.{Rec, IE, isKind, recOf, recs}
-use Rattle.rules_definitions.specs.Places.{placesFrom}
+use Rattle.rules_definitions.specs.Contexts.{contextsFrom}
 use Rattle.rules_definitions.specs.Blocks.{isInBlock, joins, nearestOf, openAfter, begins}
 use Rattle.rules_walk.specs.declared.Turn.{Turn}
 use Rattle.rules_walk.specs.Firsts.{startAfter, isFirst, startOf, firstsOf}
@@ -29,7 +29,7 @@ Passed f (l ∷ before) = (startAfter f before < length f) × (l ≡ recAt f (st
 
 -- the first II lines that are still to come
 unfoldable pub firstsFrom : Text → List Rec → List Rec → List ℕ
-firstsFrom f before ls = map (startOf f) (those isFirst (placesFrom (suc (length before)) before ls))
+firstsFrom f before ls = map (startOf f) (those isFirst (contextsFrom (suc (length before)) before ls))
 
 -- the first II lines among those passed, nearest first
 abbrev pub firstsIn : Text → List Rec → List ℕ

@@ -1,7 +1,7 @@
 // Blocks: whether an II is in one, and whether two of them name one event. Each is read from field 3 on, field by field.
 use lines::II;
 use lines_fields::field_from;
-use rules_forms::behind;
+use rules_forms::after_fields;
 use rules_forms::is_code;
 use rules_forms::is_date;
 use rules_forms::is_type;
@@ -27,7 +27,7 @@ fn same_dated(a: &[u8], b: &[u8]) -> bool
     ensures { λ r. ⌜ r ≡ sameDated (now (a .entry)) (now (b .entry)) ⌝ }
 {
     if same_first(a, b) {
-        same_first(behind(a, 2), behind(b, 2))
+        same_first(after_fields(a, 2), after_fields(b, 2))
     } else {
         false
     }
@@ -38,7 +38,7 @@ fn same_typed(a: &[u8], b: &[u8]) -> bool
     ensures { λ r. ⌜ r ≡ sameTyped (now (a .entry)) (now (b .entry)) ⌝ }
 {
     if same_first(a, b) {
-        same_dated(behind(a, 2), behind(b, 2))
+        same_dated(after_fields(a, 2), after_fields(b, 2))
     } else {
         false
     }
@@ -85,15 +85,15 @@ fn same_from(fields: usize, a: &[u8], b: &[u8]) -> bool
     match fields {
         0 => {
             if same_first(a, b) {
-                same_typed(behind(a, 1), behind(b, 1))
+                same_typed(after_fields(a, 1), after_fields(b, 1))
             } else {
                 false
             }
         }
         1 => same_typed(a, b),
-        2 => same_dated(behind(a, 1), behind(b, 1)),
+        2 => same_dated(after_fields(a, 1), after_fields(b, 1)),
         3 => same_dated(a, b),
-        4 => same_first(behind(a, 1), behind(b, 1)),
+        4 => same_first(after_fields(a, 1), after_fields(b, 1)),
         5 => same_first(a, b),
         _ => true,
     }
@@ -103,8 +103,8 @@ fn same_from(fields: usize, a: &[u8], b: &[u8]) -> bool
 pub fn joins(a: &[u8], b: &[u8]) -> bool
     ensures { λ r. ⌜ r ≡ joins (recOf (now (a .entry))) (recOf (now (b .entry))) ⌝ }
 {
-    let p = behind(a, 2);
-    let q = behind(b, 2);
+    let p = after_fields(a, 2);
+    let q = after_fields(b, 2);
     let l = alike(p, q);
     let at = l.at;
     same_from(l.fields, &p[at..], &q[at..])
@@ -126,7 +126,7 @@ fn is_dated_code(sixth: &[u8]) -> bool
 {
     let t = field_from(sixth, 0);
     if is_date(t) {
-        is_code(field_from(behind(past(sixth, t.len()), 1), 0))
+        is_code(field_from(after_fields(past(sixth, t.len()), 1), 0))
     } else {
         false
     }
@@ -138,7 +138,7 @@ fn is_typed_code(fourth: &[u8]) -> bool
 {
     let t = field_from(fourth, 0);
     if is_type(t) {
-        is_dated_code(behind(past(fourth, t.len()), 1))
+        is_dated_code(after_fields(past(fourth, t.len()), 1))
     } else {
         false
     }
@@ -151,7 +151,7 @@ pub fn in_block(line: &[u8]) -> bool
     if lines::kind_of(line) != II {
         return false;
     }
-    let third = behind(line, 2);
+    let third = after_fields(line, 2);
     let t = field_from(third, 0);
     if is_uli(t) {
         is_typed_code(past(third, t.len()))

@@ -7,7 +7,7 @@ mod walk;
 
 pub use blocks::in_block;
 pub use blocks::joins;
-pub use find::names_before;
+pub use find::rule15_named_before;
 pub use parts::count_of;
 pub use parts::keep;
 pub use parts::part_of;

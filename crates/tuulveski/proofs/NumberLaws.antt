@@ -7,7 +7,7 @@ use Prim.Native.Nat.{ℕ, zero, suc, _+_, _*_, _≤_}
 use native.Mathlib.Omega.{arith}
 use lib.Dec.{eqb}
 use lib.ListN.{length, length-append, length-drop, length-map}
-use Rattle.house.specs.Text.{Text, joined, those, count}
+use Rattle.house.specs.Text.{Text, joined, those, howMany}
 use Rattle.house.proofs.Small.{clash}
 use Rattle.lines.specs.declared.Shape.the-variants.{Right, Fault}
 use Rattle.lines.specs.Lines.{Line, linesOf, lineOf, textLen, lineLen}
@@ -16,7 +16,7 @@ use Rattle.lines.specs.Shape.{causeOf, cause7, shapeFrom, shapeOf}
 use Rattle.lines.proofs.LineLaws.{line-le, line-pos, lines-step}
 use Rattle.lines.proofs.FieldLaws.{fields-few}
 use Rattle.ledger.proofs.FoundLaws.{those-le}
-use Rattle.rules.specs.Places.{Place, placesFrom, placesOf, placesIn}
+use Rattle.rules.specs.Contexts.{Context, contextsFrom, contextsOf, contextsIn}
 use Rattle.rules.specs.Blocks.{beginsBlock, eventOf, eventsOf, adds, changes, deletes}
 use Rattle.rules.specs.Seen.{Setting, Seen, seenAt}
 use Rattle.rules.specs.Rules.{Numbered, rules, rulesIn, rulesOf, brokenBy, brokenAt}
@@ -71,26 +71,26 @@ shape-few s line cause e = omega (arith, fault-at 1 0 (linesOf s) line cause e, 
 
 -- 2. Blocks and IN records
 
-places-size : (n : ℕ) (before ls : List Rec) → length (placesFrom n before ls) ≡ length ls
+places-size : (n : ℕ) (before ls : List Rec) → length (contextsFrom n before ls) ≡ length ls
 places-size n before [] = refl
 places-size n before (l ∷ ls) = ap suc (places-size (suc n) (l ∷ before) ls)
 
-events-few : (type file : Text) → length (eventsOf type (placesIn file)) ≤ length file
-unfolding eventsOf placesIn placesOf
+events-few : (type file : Text) → length (eventsOf type (contextsIn file)) ≤ length file
+unfolding eventsOf contextsIn contextsOf
 events-few type file =
     omega (
       arith,
-      length-map (those (beginsBlock type) (placesFrom 1 [] (recs file))) (λ (h : Place). eventOf (h .line)),
-      those-le (beginsBlock type) (placesFrom 1 [] (recs file)),
+      length-map (those (beginsBlock type) (contextsFrom 1 [] (recs file))) (λ (h : Context). eventOf (h .line)),
+      those-le (beginsBlock type) (contextsFrom 1 [] (recs file)),
       places-size 1 [] (recs file),
       recs-few file,
     )
 
-count-le : (p : Rec → Bool) (ls : List Rec) → count p ls ≤ length ls
+count-le : (p : Rec → Bool) (ls : List Rec) → howMany p ls ≤ length ls
 count-le p [] = omega arith
 count-le p (l ∷ ls) = go (p l) (count-le p ls)
   where
-    go : (b : Bool) → count p ls ≤ length ls → cond b (suc (count p ls)) (count p ls) ≤ suc (length ls)
+    go : (b : Bool) → howMany p ls ≤ length ls → cond b (suc (howMany p ls)) (howMany p ls) ≤ suc (length ls)
     go true h = omega arith
     go false h = omega arith
 
@@ -147,20 +147,20 @@ module _ (s : Setting) where
         fields-findings n v (f + 1) m,
       )
 
-  lines-findings : (n : ℕ) (before ls : List Rec) → length (joined (lineFindings s) (placesFrom n before ls)) ≤ 18 * fieldsIn ls
+  lines-findings : (n : ℕ) (before ls : List Rec) → length (joined (lineFindings s) (contextsFrom n before ls)) ≤ 18 * fieldsIn ls
   unfolding lineFindings
   lines-findings n before [] = omega arith
   lines-findings n before (l ∷ ls) =
-      let h : Place = record { number = n; before = before; line = l; after = ls } in
+      let h : Context = record { number = n; before = before; line = l; after = ls } in
       omega (
         arith,
-        length-append (fieldsFindings s n (seenAt s h) 1 (length (l .fields))) (joined (lineFindings s) (placesFrom (suc n) (l ∷ before) ls)),
+        length-append (fieldsFindings s n (seenAt s h) 1 (length (l .fields))) (joined (lineFindings s) (contextsFrom (suc n) (l ∷ before) ls)),
         fields-findings n (seenAt s h) 1 (length (l .fields)),
         lines-findings (suc n) (l ∷ before) ls,
       )
 
   findings-few : (file : Text) → length (findingsOf s file) ≤ 18 * length file
-  unfolding findingsOf placesIn placesOf
+  unfolding findingsOf contextsIn contextsOf
   findings-few file = omega (arith, lines-findings 1 [] (recs file), all-fields-few file)
 
 -- 5. The numbers of the answer

@@ -123,12 +123,12 @@ fn say_judged(j: Judged, area: &[u8]) {
         Judged::Done {
             blocks,
             findings,
-            declined,
+            not_immunized,
         } => {
             io::write_all(1, b"done ");
             vectors_stream::say(blocks as u64);
             vectors_stream::say(findings as u64);
-            vectors_stream::say(declined as u64);
+            vectors_stream::say(not_immunized as u64);
             say_area(area, findings);
         }
         Judged::TooMany => {

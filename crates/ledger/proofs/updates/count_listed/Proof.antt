@@ -6,14 +6,14 @@ use Rattle.ledger.proofs.UpdateLaws.{listed-start}
 use Prim.Native.Nat.{_-_, _+_, _≤_}
 use mathlib.Core.Path.{_≡_}
 use lib.ListN.{length, drop}
-use Rattle.house.specs.Text.{count}
+use Rattle.house.specs.Text.{howMany}
 use Rattle.lines_places.specs.Events.{eventsAt}
 use Rattle.ledger.specs.Ledger.{foundIn}
 use Rattle.ledger.proofs.updates.count_listed.Statement.{statement}
 use Rattle.ledger.proofs.updates.count_listed.Tie as tie
 
 abbrev Inv-loop : tie.InvT-loop
-Inv-loop ledger live file places n₀ i₀ n i = (n ≤ i) × (i ≤ length places) × (count (foundIn ledger live) (eventsAt file places) ≡ n + count (foundIn ledger live) (eventsAt file (drop i places)))
+Inv-loop ledger live file places n₀ i₀ n i = (n ≤ i) × (i ≤ length places) × (howMany (foundIn ledger live) (eventsAt file places) ≡ n + howMany (foundIn ledger live) (eventsAt file (drop i places)))
 
 abbrev μ-loop : tie.MeasureT-loop
 μ-loop ledger live file places n₀ i₀ n i = length places - i

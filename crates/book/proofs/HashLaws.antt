@@ -1,0 +1,167 @@
+-- What each need of the guesses asks: `mix`, `byte_at`, `guess`, `put_byte`, `note_row`, `note_rows`, `note_kinds`, `copy_book` and `guide`.
+-- Assumes nothing.
+use mathlib.Core.Path.{_≡_, refl, sym, ap, _∙_}
+use mathlib.Core.Bool.{Bool, true, false, cond}
+use mathlib.Core.List.{[], _∷_, _++_, append-nil}
+use Prim.Native.Nat.{ℕ, zero, suc, _+_, _-_, _*_, _/_, _%_, _≤_, _<_}
+use native.Mathlib.Nat.{mod-lt}
+use native.Mathlib.Numerals.{add-one}
+use native.Mathlib.Omega.{arith}
+use borrow.Author.Tests.{eq-eqb, ne-eqb, le-leb, lt-leb}
+use borrow.Author.Needs.{needs}
+use borrow.Rule.Slice.PartMut.{putMid}
+use lib.Dec.{eqb}
+use lib.ListN.{length, take, drop, getD, set, length-append, List·getD-eq-default}
+use lib.Seq.{take-append-seam, drop-append-seam, take-all}
+use Rattle.house.specs.Text.{Text}
+use Rattle.house.proofs.Suffix.{drop-here, drop-past, rest, set-past, copy-more}
+use Rattle.book.specs.declared.Sections.{Sections}
+use Rattle.book.specs.Book.{firstWidth, secondWidth, codeWidth, bodyWidth, filled, codeText}
+use Rattle.book.specs.LookUp.{sectionStart, countIn, placeOf, mix, guess, noteRow, noteRows, noteKinds, withHashTable}
+use Rattle.book.proofs.SearchLaws.{count-from, probe-mul, probe-add, probe-body, probe-code}
+
+-- mix
+module _ (t : Text) (from h i : ℕ) (inv : mix from t ≡ mix h (drop i t)) where
+  module _ (l : i < length t) where
+    pub mix-blank : getD t i 0 ≡ 32 → mix from t ≡ mix h (drop (i + 1) t)
+    unfolding mix
+    mix-blank e = inv ∙ rw (drop-here t i l, eq-eqb _ _ e)
+
+    pub mix-byte : (v : ℕ) → (getD t i 0 ≡ 32 → ⊥) → v ≡ getD t i 0 → mix from t ≡ mix ((h * 31 + v) % 32768) (drop (i + 1) t)
+    unfolding mix
+    mix-byte v e f = inv ∙ rw (drop-here t i l, ne-eqb _ _ e, ← f)
+
+  pub mix-end : length t ≤ i → h ≡ mix from t
+  unfolding mix
+  mix-end l = sym (inv ∙ rw (drop-past t i l))
+
+pub mix-low : (n : ℕ) → n % 32768 < 32768
+mix-low n = mod-lt n (omega arith)
+
+pub ruleset for-hash = (needs, mix-blank, mix-byte, mix-end, mix-low)
+
+-- byte_at
+pub byte-past : (t : Text) (at : ℕ) → length t ≤ at → 0 ≡ getD t at 0
+byte-past t at l = sym (List·getD-eq-default t 0 l)
+
+pub ruleset for-byte-at = (needs, byte-past)
+
+-- guess: padding is not mixed in
+mix-append : (h : ℕ) (x y : Text) → mix h (x ++ y) ≡ mix (mix h x) y
+unfolding mix
+mix-append h [] y = refl
+mix-append h (b ∷ x) y = go (eqb b 32) (mix-append h x y) (mix-append ((h * 31 + b) % 32768) x y)
+  where
+    go : (r : Bool) → mix h (x ++ y) ≡ mix (mix h x) y → mix ((h * 31 + b) % 32768) (x ++ y) ≡ mix (mix ((h * 31 + b) % 32768) x) y → cond r (mix h (x ++ y)) (mix ((h * 31 + b) % 32768) (x ++ y)) ≡ mix (cond r (mix h x) (mix ((h * 31 + b) % 32768) x)) y
+    go true e f = e
+    go false e f = f
+
+mix-filled : (h w : ℕ) (t : Text) → mix h (filled w t) ≡ mix h t
+unfolding mix
+mix-filled h zero t = refl
+mix-filled h (suc w) [] = mix-filled h w []
+mix-filled h (suc w) (b ∷ t) = rw (mix-filled h w t, mix-filled ((h * 31 + b) % 32768) w t)
+
+mix-code : (k : ℕ) (a b : Text) → mix k (codeText k a b) ≡ mix (mix k a) b
+unfolding codeText
+mix-code k a b = mix-append k (filled (firstWidth k) a) (filled (secondWidth k) b) ∙ rw (mix-filled k (firstWidth k) a, mix-filled (mix k a) (secondWidth k) b)
+
+module _ (s : Text) (q : Sections) (k : ℕ) (a b : Text) where
+  pub guess-none : length s < q .end → 0 ≡ guess s q k (codeText k a b)
+  unfolding guess
+  guess-none l = rw (drop-past s (q .end) (omega arith))
+
+  pub guess-is : (v f m : ℕ) → v ≡ k → f ≡ mix v a → m ≡ mix f b → (x y : ℕ) → x ≡ getD (take (length s - q .end) (drop (q .end) s)) (m * 2) 0 → y ≡ getD (take (length s - q .end) (drop (q .end) s)) (m * 2 + 1) 0
+      → x + y * 256 ≡ guess s q k (codeText k a b)
+  unfolding guess
+  guess-is v f m ev ef em x y ex ey = rw (mix-code k a b, ← ev, ← ef, ← em, ← rest s (q .end), ← ex, ← ey)
+
+pub ruleset for-hashed = (needs, guess-none, guess-is)
+
+-- put_byte
+pub ruleset for-put-byte = (needs, set-past)
+
+-- note_row
+module _ (s : Text) (from n i w p q : ℕ) (h : i < n) (g : n * w ≤ length s - from) (v : p + q < w) (z : length s < 18446744073709551616) where
+  pub row-first : from + i * w + 1 + p < 18446744073709551616
+  row-first = omega (arith, probe-code s from n i w p q h g v)
+
+  pub row-second : from + i * w + 1 + p + q < 18446744073709551616
+  row-second = omega (arith, probe-code s from n i w p q h g v)
+
+pub row-noted : (s : Text) (k from i w p q : ℕ) (t u v : Text) (j m : ℕ) → w ≡ bodyWidth k + 1 → p ≡ firstWidth k → q ≡ secondWidth k
+    → j ≡ k → m ≡ mix j (take (from + i * w + 1 + p + q - (from + i * w + 1)) (drop (from + i * w + 1) s))
+    → u ≡ set t (m * 2) (i % 256) → v ≡ set u (m * 2 + 1) (i / 256 % 256) → v ≡ noteRow s k from i t
+unfolding noteRow placeOf codeWidth
+row-noted s k from i w p q t u v j m ew ep eq ej em eu ev =
+    let n : from + i * w + 1 + p + q - (from + i * w + 1) ≡ p + q = omega arith in
+    let e : m ≡ mix k (take (firstWidth k + secondWidth k) (drop (from + i * (bodyWidth k + 1) + 1) s)) = em ∙ rw (ej, n, ew, ep, eq) in
+    ev ∙ rw (eu, e)
+
+pub ruleset for-hash-entry = (needs, probe-mul, probe-add, probe-body, probe-code, row-first, row-second, row-noted)
+
+-- note_rows
+module _ (s : Text) (k from : ℕ) (t₀ : Text) where
+  pub rows-start : t₀ ≡ noteRows s k from 0 t₀
+  unfolding noteRows
+  rows-start = refl
+
+  pub rows-on : (i : ℕ) (t u : Text) → t ≡ noteRows s k from i t₀ → u ≡ noteRow s k from i t → u ≡ noteRows s k from (i + 1) t₀
+  unfolding noteRows
+  rows-on i t u e f = rw (add-one, ← e) f
+
+  pub rows-end : (i n : ℕ) (t : Text) (q : Sections) → t ≡ noteRows s k from i t₀ → i ≤ n → n ≤ i → from ≡ sectionStart q k → n ≡ countIn s q k → t ≡ noteRows s k (sectionStart q k) (countIn s q k) t₀
+  rows-end i n t q e l m f g = let d : i ≡ n = omega arith in rw (← f, ← g, ← d) e
+
+pub ruleset for-hash-entries = (needs, count-from, rows-start, rows-on, rows-end)
+
+-- note_kinds
+module _ (s : Text) (q : Sections) (t₀ : Text) where
+  pub kinds-start : t₀ ≡ noteKinds s q 0 t₀
+  unfolding noteKinds
+  kinds-start = refl
+
+  pub kinds-on : (k : ℕ) (t u : Text) → t ≡ noteKinds s q k t₀ → u ≡ noteRows s (k + 1) (sectionStart q (k + 1)) (countIn s q (k + 1)) t → u ≡ noteKinds s q (k + 1) t₀
+  unfolding noteKinds
+  kinds-on k t u e f = rw (add-one, ← e) (rw add-one at f)
+
+  pub kinds-end : (k : ℕ) (t : Text) → t ≡ noteKinds s q k t₀ → k ≤ 8 → 8 ≤ k → t ≡ noteKinds s q 8 t₀
+  kinds-end k t e l m = let d : k ≡ 8 = omega arith in rw d at e
+
+pub ruleset for-hash-kinds = (needs, kinds-start, kinds-on, kinds-end)
+
+-- copy_book
+module _ (s room old : Text) (i : ℕ) (e : room ≡ take i s ++ drop i old) where
+  pub copy-on : i < length s → length s ≤ length old → set room i (getD s i 0) ≡ take (i + 1) s ++ drop (i + 1) old
+  copy-on h l = rw e (copy-more s old i h (omega arith))
+
+  pub copy-end : i ≤ length s → length s ≤ i → room ≡ s ++ drop (length s) old
+  copy-end h k = let d : i ≡ length s = omega arith in e ∙ rw d (ap (λ (t : Text). t ++ drop (length s) old) (take-all (length s) s (omega arith)))
+
+pub ruleset for-copy-book = (needs, copy-on, copy-end)
+
+-- guide
+module _ (s : Text) (q : Sections) (room : Text) where
+  pub guide-small : length room < length s → room ≡ withHashTable s q room
+  unfolding withHashTable
+  guide-small h = rw (lt-leb _ _ h)
+
+  module _ (h : length s ≤ length room) (u : Text) (e : u ≡ s ++ drop (length s) room) where
+    pub guide-part : length s ≤ length u
+    guide-part = rw e (omega (arith, length-append s (drop (length s) room)))
+
+    behind : drop (length s) u ≡ drop (length s) room
+    behind = rw e (drop-append-seam s (drop (length s) room))
+
+    size : length u - length s ≡ length (drop (length s) room)
+    size = omega (arith, ap length e, length-append s (drop (length s) room))
+
+    pub guide-is : (t : Text) → t ≡ noteKinds s q 8 (take (length u - length s) (drop (length s) u)) → putMid (length s) (length u - length s) u t ≡ withHashTable s q room
+    unfolding withHashTable
+    guide-is t f =
+        let all : take (length u - length s) (drop (length s) u) ≡ drop (length s) room = ap (take (length u - length s)) behind ∙ take-all (length u - length s) (drop (length s) room) (omega (arith, size)) in
+        let none : drop (length u - length s) (drop (length s) u) ≡ [] = ap (drop (length u - length s)) behind ∙ drop-past (drop (length s) room) (length u - length s) (omega (arith, size)) in
+        let front : take (length s) u ≡ s = ap (take (length s)) e ∙ take-append-seam s (drop (length s) room) in
+        rw (le-leb _ _ h, none, front, append-nil) (ap (λ (x : Text). s ++ x) (f ∙ ap (noteKinds s q 8) all))
+
+pub ruleset for-hash-book = (needs, guide-small, guide-part, guide-is)

@@ -1,0 +1,142 @@
+// Guesses: a table behind a book that says, by a number that a code is mixed to, which entry of its kind to ask first. In a valid book a guess that is
+// wrong costs time and alters no answer.
+use crate::Sections;
+use crate::search::Widths;
+use crate::search::section_count;
+use crate::search::widths_of;
+ghost use mathlib.Core.Path.{_≡_};
+ghost use mathlib.Core.List.{_++_};
+ghost use Prim.Native.Nat.{_<_, _≤_, _+_, _-_, _*_};
+ghost use lib.ListN.{length, drop, set, getD};
+ghost use Rattle.book.specs.Book.{firstWidth, secondWidth, bodyWidth, codeText};
+ghost use Rattle.book.specs.LookUp.{sectionStart, countIn, mix, guess, noteRow, noteRows, noteKinds, withHashTable};
+
+// A byte, as a number to reckon with.
+fn value(b: u8) -> usize
+    ensures { λ r. ⌜ r ≡ b ⌝ }
+    ensures { λ r. ⌜ r < 256 ⌝ }
+{
+    b as usize
+}
+
+// The number that a text is mixed to, from another on.
+fn hash(from: usize, text: &[u8]) -> usize
+    requires { ⌜ from < 32768 ⌝ }
+    ensures { λ r. ⌜ r ≡ mix from (now (text .entry)) ⌝ }
+    ensures { λ r. ⌜ r < 32768 ⌝ }
+{
+    let mut h = from;
+    let mut i = 0;
+    while i < text.len() {
+        let b = text[i];
+        if b != 32 {
+            h = (h * 31 + value(b)) % 32768;
+            i += 1;
+            continue;
+        }
+        i += 1;
+    }
+    h
+}
+
+// The byte of a table at a place, 0 past its end.
+fn byte_at(table: &[u8], at: usize) -> usize
+    ensures { λ r. ⌜ r ≡ getD (now (table .entry)) at 0 ⌝ }
+    ensures { λ r. ⌜ r < 256 ⌝ }
+{
+    if at < table.len() {
+        value(table[at])
+    } else {
+        0
+    }
+}
+
+// Which entry of a kind the table behind a book names for a code, given as for find.
+pub(crate) fn hashed(book: &[u8], sections: Sections, k: u8, a: &[u8], b: &[u8]) -> usize
+    ensures { λ r. ⌜ r ≡ guess (now (book .entry)) sections k (codeText k (now (a .entry)) (now (b .entry))) ⌝ }
+{
+    let end = sections.end;
+    if book.len() < end {
+        return 0;
+    }
+    let first = hash(value(k), a);
+    let at = hash(first, b) * 2;
+    let table = &book[end..];
+    byte_at(table, at) + byte_at(table, at + 1) * 256
+}
+
+// Writes a byte into a table, if there is room for it.
+fn put_byte(table: &mut [u8], at: usize, b: u8)
+    ensures { λ _. ⌜ now (table .exit) ≡ set (now (table .entry)) at b ⌝ }
+{
+    if at < table.len() {
+        table[at] = b;
+    }
+}
+
+// Notes entry i of those of these widths and of kind k that start at `from`, of which there are n.
+fn hash_entry(book: &[u8], k: u8, from: usize, n: usize, i: usize, w: Widths, table: &mut [u8])
+    requires { ⌜ i < n ⌝ }
+    requires { ⌜ n * w .entry ≤ length (now book) - from ⌝ }
+    requires { ⌜ w .first + w .second < w .entry ⌝ }
+    requires { ⌜ w .entry ≡ bodyWidth k + 1 ⌝ }
+    requires { ⌜ w .first ≡ firstWidth k ⌝ }
+    requires { ⌜ w .second ≡ secondWidth k ⌝ }
+    ensures { λ _. ⌜ now (table .exit) ≡ noteRow (now (book .entry)) k from i (now (table .entry)) ⌝ }
+{
+    let code = from + i * w.entry + 1;
+    let end = code + w.first + w.second;
+    let at = hash(value(k), &book[code..end]) * 2;
+    put_byte(table, at, (i % 256) as u8);
+    put_byte(table, at + 1, (i / 256 % 256) as u8);
+}
+
+// Notes the entries of kind k.
+fn hash_entries(book: &[u8], sections: Sections, k: u8, table: &mut [u8])
+    requires { ⌜ k ≤ 8 ⌝ }
+    ensures { λ _. ⌜ now (table .exit) ≡ noteRows (now (book .entry)) k (sectionStart sections k) (countIn (now (book .entry)) sections k) (now (table .entry)) ⌝ }
+{
+    let from = sections.start(k);
+    let w = widths_of(k);
+    let n = section_count(book, sections, k, w.entry);
+    let mut i = 0;
+    while i < n {
+        hash_entry(book, k, from, n, i, w, table);
+        i += 1;
+    }
+}
+
+// Notes the entries of every kind.
+fn hash_kinds(book: &[u8], sections: Sections, table: &mut [u8])
+    ensures { λ _. ⌜ now (table .exit) ≡ noteKinds (now (book .entry)) sections 8 (now (table .entry)) ⌝ }
+{
+    let mut k: u8 = 0;
+    while k < 8 {
+        k += 1;
+        hash_entries(book, sections, k, table);
+    }
+}
+
+// Copies a book to the front of a room.
+fn copy_book(book: &[u8], room: &mut [u8])
+    requires { ⌜ length (now book) ≤ length (now room) ⌝ }
+    ensures { λ _. ⌜ now (room .exit) ≡ now (book .entry) ++ drop (length (now (book .entry))) (now (room .entry)) ⌝ }
+{
+    let mut i = 0;
+    while i < book.len() {
+        room[i] = book[i];
+        i += 1;
+    }
+}
+
+// Copies a book to the front of a room and notes its entries in what is left of it. Where the room is shorter than the book it stays as lent.
+pub fn hash_book(book: &[u8], sections: Sections, room: &mut [u8])
+    ensures { λ _. ⌜ now (room .exit) ≡ withHashTable (now (book .entry)) sections (now (room .entry)) ⌝ }
+{
+    let n = book.len();
+    if room.len() < n {
+        return;
+    }
+    copy_book(book, room);
+    hash_kinds(book, sections, &mut room[n..]);
+}

@@ -1,0 +1,135 @@
+// The fields of an II and of an IE that have more than one rule: which are broken at each.
+use crate::Broken;
+use crate::Day;
+use crate::Facts;
+use crate::by_rule::rule4_method;
+use crate::by_rule::rule4_site;
+use crate::by_rule::rule9_method;
+use crate::by_rule::rule9_site;
+use crate::by_rule::rule10_partner_missing;
+use crate::by_rule::rule12_antigen_again;
+use crate::by_rule::rule13_antigens_differ;
+use crate::by_rule::rules16_to_18;
+use crate::codes::code_field;
+use crate::codes::rule11_pair;
+use book::Sections;
+use lines::IE;
+use lines::II;
+ghost use mathlib.Core.Path.{_≡_};
+ghost use mathlib.Core.Bool.{cond};
+ghost use Rattle.lines.specs.Records.{recOf};
+ghost use Rattle.rules_fields.specs.Fields.{ii4Type, ii8Vaccine, ii9Site, ii10Method, ii11Reason, ii12Dosage, ii13DosageType, ie4Antigen};
+
+// II 4: rules 1, 2 and 16 to 18.
+pub fn ii4_type(t: &[u8], facts: Facts) -> Broken
+    ensures { λ r. ⌜ r ≡ ii4Type (now (t .entry)) facts ⌝ }
+{
+    let a = rules_forms::rules1_and_2(II, false, 4, t);
+    let b = rules16_to_18(facts.inb, t, facts.live);
+    Broken { a, b, c: 0 }
+}
+
+// Rule 15 at II 8.
+fn rule15_event_again(repeated: bool) -> u8
+    ensures { λ r. ⌜ r ≡ cond repeated 15 0 ⌝ }
+{
+    if repeated { 15 } else { 0 }
+}
+
+// II 8: rules 1, 2, 4, 5, 13 and 15.
+pub fn ii8_vaccine(
+    t: &[u8],
+    own: &[u8],
+    first: &[u8],
+    book: &[u8],
+    q: Sections,
+    day: Day,
+    facts: Facts,
+) -> Broken
+    ensures { λ r. ⌜ r ≡ ii8Vaccine (now (t .entry)) (now (own .entry)) (now (first .entry)) (now (book .entry)) q day facts ⌝ }
+{
+    let a = code_field(II, false, 8, t, 1, t, book, q, day);
+    let b = rule13_antigens_differ(facts.joined, own, first);
+    let c = rule15_event_again(facts.repeated);
+    Broken { a, b, c }
+}
+
+// II 9: rules 1, 2, 4, 9 and 10.
+pub fn ii9_site(line: &[u8], relaxed: bool, t: &[u8]) -> Broken
+    ensures { λ r. ⌜ r ≡ ii9Site (recOf (now (line .entry))) relaxed (now (t .entry)) ⌝ }
+{
+    let a = rule4_site(relaxed, t);
+    let b = rule9_site(line, t);
+    let c = rule10_partner_missing(line, relaxed, t, 10);
+    Broken { a, b, c }
+}
+
+// II 10: rules 1, 2, 4, 9 and 10.
+pub fn ii10_method(line: &[u8], relaxed: bool, t: &[u8]) -> Broken
+    ensures { λ r. ⌜ r ≡ ii10Method (recOf (now (line .entry))) relaxed (now (t .entry)) ⌝ }
+{
+    let a = rule4_method(relaxed, t);
+    let b = rule9_method(line, t);
+    let c = rule10_partner_missing(line, relaxed, t, 9);
+    Broken { a, b, c }
+}
+
+// II 11: rules 1, 2, 4, 5 and 11.
+pub fn ii11_reason(
+    line: &[u8],
+    relaxed: bool,
+    t: &[u8],
+    book: &[u8],
+    q: Sections,
+    day: Day,
+) -> Broken
+    ensures { λ r. ⌜ r ≡ ii11Reason (recOf (now (line .entry))) relaxed (now (t .entry)) (now (book .entry)) q day ⌝ }
+{
+    let read = rules_tables::reason_read(t);
+    let a = code_field(II, relaxed, 11, t, 3, &read, book, q, day);
+    let b = rule11_pair(a, II, line, 11, t, 3, &read, 7, line, book, q, day);
+    Broken { a, b, c: 0 }
+}
+
+// II 12: rules 1, 2 and 10.
+pub fn ii12_dosage(line: &[u8], relaxed: bool, t: &[u8]) -> Broken
+    ensures { λ r. ⌜ r ≡ ii12Dosage (recOf (now (line .entry))) relaxed (now (t .entry)) ⌝ }
+{
+    let a = rules_forms::rules1_and_2(II, relaxed, 12, t);
+    let b = rule10_partner_missing(line, relaxed, t, 13);
+    Broken { a, b, c: 0 }
+}
+
+// II 13: rules 1, 2, 4, 5 and 10.
+pub fn ii13_dosage_type(
+    line: &[u8],
+    relaxed: bool,
+    t: &[u8],
+    book: &[u8],
+    q: Sections,
+    day: Day,
+) -> Broken
+    ensures { λ r. ⌜ r ≡ ii13DosageType (recOf (now (line .entry))) relaxed (now (t .entry)) (now (book .entry)) q day ⌝ }
+{
+    let a = code_field(II, relaxed, 13, t, 5, t, book, q, day);
+    let b = rule10_partner_missing(line, relaxed, t, 12);
+    Broken { a, b, c: 0 }
+}
+
+// IE 4: rules 1, 2, 4, 5, 11 and 12.
+pub fn ie4_antigen(
+    line: &[u8],
+    head: &[u8],
+    since: &[u8],
+    t: &[u8],
+    book: &[u8],
+    q: Sections,
+    day: Day,
+) -> Broken
+    ensures { λ r. ⌜ r ≡ ie4Antigen (now (line .entry)) (now (head .entry)) (now (since .entry)) (now (t .entry)) (now (book .entry)) q day ⌝ }
+{
+    let a = code_field(IE, false, 4, t, 2, t, book, q, day);
+    let b = rule11_pair(a, IE, line, 4, t, 2, t, 8, head, book, q, day);
+    let c = rule12_antigen_again(t, since);
+    Broken { a, b, c }
+}

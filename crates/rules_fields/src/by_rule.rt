@@ -1,0 +1,139 @@
+// The later rules of an II and of its IE lines: rules 4 of sites and methods, 9, 10, 12, 13 and 16 to 18.
+use lines::IE;
+use lines::II;
+ghost use mathlib.Core.Path.{_≡_};
+ghost use mathlib.Core.Bool.{cond, false, _&&_};
+ghost use lib.Dec.{eqb};
+ghost use Rattle.house.specs.Text.{any, isEmpty};
+ghost use Rattle.lines.specs.Records.{recOf, recs};
+ghost use Rattle.rules_definitions.specs.Forms.{text, isGiven};
+ghost use Rattle.rules_definitions.specs.Codes.{isSite, isMethod};
+ghost use Rattle.rules_definitions.specs.Rules.{siteWrong, methodWrong, countsSound, setsDiffer};
+ghost use Rattle.rules_forms.specs.FieldLeaves.{lowestIn};
+ghost use Rattle.rules_lists.specs.Among.{antigenIs};
+ghost use Rattle.rules_fields.specs.Fields.{codeLater, rules16to18At, rule10By};
+
+// II 9: rules 1, 2 and 4.
+pub(crate) fn rule4_site(relaxed: bool, t: &[u8]) -> u8
+    ensures { λ r. ⌜ r ≡ lowestIn 4 relaxed 9 (now (t .entry)) (codeLater (isEmpty (now (t .entry))) (isSite (now (t .entry))) false) ⌝ }
+{
+    let r = rules_forms::rules1_and_2(II, relaxed, 9, t);
+    if r != 0 {
+        return r;
+    }
+    if t.len() == 0 {
+        return 0;
+    }
+    if rules_tables::is_site(t) { 0 } else { 4 }
+}
+
+// II 10: rules 1, 2 and 4.
+pub(crate) fn rule4_method(relaxed: bool, t: &[u8]) -> u8
+    ensures { λ r. ⌜ r ≡ lowestIn 4 relaxed 10 (now (t .entry)) (codeLater (isEmpty (now (t .entry))) (isMethod (now (t .entry))) false) ⌝ }
+{
+    let r = rules_forms::rules1_and_2(II, relaxed, 10, t);
+    if r != 0 {
+        return r;
+    }
+    if t.len() == 0 {
+        return 0;
+    }
+    if rules_tables::is_method(t) { 0 } else { 4 }
+}
+
+// Whether site and method are both given.
+fn both_given(line: &[u8]) -> bool
+    ensures { λ r. ⌜ r ≡ isGiven 4 (recOf (now (line .entry))) 9 && isGiven 4 (recOf (now (line .entry))) 10 ⌝ }
+{
+    if rules_forms::is_given(II, line, 9) {
+        rules_forms::is_given(II, line, 10)
+    } else {
+        false
+    }
+}
+
+// Rule 9 at II 9, whose text is the site.
+pub(crate) fn rule9_site(line: &[u8], site: &[u8]) -> u8
+    ensures { λ r. ⌜ r ≡ cond (siteWrong (now (site .entry)) (text (recOf (now (line .entry))) 10) && (isGiven 4 (recOf (now (line .entry))) 9 && isGiven 4 (recOf (now (line .entry))) 10)) 9 0 ⌝ }
+{
+    if rules_tables::rule9_site_wrong(site, lines_fields::field_of(line, 10)) {
+        if both_given(line) {
+            return 9;
+        }
+    }
+    0
+}
+
+// Rule 9 at II 10, whose text is the method.
+pub(crate) fn rule9_method(line: &[u8], method: &[u8]) -> u8
+    ensures { λ r. ⌜ r ≡ cond (methodWrong (text (recOf (now (line .entry))) 9) (now (method .entry)) && (isGiven 4 (recOf (now (line .entry))) 9 && isGiven 4 (recOf (now (line .entry))) 10)) 9 0 ⌝ }
+{
+    if rules_tables::rule9_method_wrong(lines_fields::field_of(line, 9), method) {
+        if both_given(line) {
+            return 9;
+        }
+    }
+    0
+}
+
+// Rule 10: a field is empty and the other given, in a relaxed event.
+pub(crate) fn rule10_partner_missing(line: &[u8], relaxed: bool, t: &[u8], other: usize) -> u8
+    ensures { λ r. ⌜ r ≡ rule10By (recOf (now (line .entry))) relaxed (now (t .entry)) other ⌝ }
+{
+    if rules_forms::rule10_lacks(line, t, other) {
+        if relaxed {
+            return 10;
+        }
+    }
+    0
+}
+
+// Rule 12 at IE 4, of an antigen and the IE lines of its II before it.
+pub(crate) fn rule12_antigen_again(t: &[u8], since: &[u8]) -> u8
+    ensures { λ r. ⌜ r ≡ cond (eqb (lowestIn 5 false 4 (now (t .entry)) 0) 0 && any (antigenIs (now (t .entry))) (recs (now (since .entry)))) 12 0 ⌝ }
+{
+    if rules_forms::rules1_and_2(IE, false, 4, t) == 0 {
+        if rules_lists::rule12_any_antigen(t, since) {
+            return 12;
+        }
+    }
+    0
+}
+
+// Rule 13 at II 8, of the IE lines of an II that is not its block's first, and of those of the first. The sets are asked for first: most are one.
+pub(crate) fn rule13_antigens_differ(joined: bool, own: &[u8], first: &[u8]) -> u8
+    ensures { λ r. ⌜ r ≡ cond (joined && (countsSound (recs (now (own .entry))) && (countsSound (recs (now (first .entry))) && setsDiffer (recs (now (own .entry))) (recs (now (first .entry)))))) 13 0 ⌝ }
+{
+    if joined {
+        if rules_lists::rule13_sets_differ(own, first) {
+            if rules_lists::rule13_counts_sound(own) {
+                if rules_lists::rule13_counts_sound(first) {
+                    return 13;
+                }
+            }
+        }
+    }
+    0
+}
+
+// Rules 16 to 18 at II 4, by the submission type and whether the event is live.
+pub(crate) fn rules16_to_18(inb: bool, t: &[u8], live: bool) -> u8
+    ensures { λ r. ⌜ r ≡ rules16to18At inb (now (t .entry)) live ⌝ }
+{
+    if inb {
+        if live {
+            if house::same(t, b"A") {
+                return 16;
+            } else {
+                return 0;
+            }
+        }
+        if house::same(t, b"C") {
+            return 17;
+        }
+        if house::same(t, b"D") {
+            return 18;
+        }
+    }
+    0
+}
