@@ -23,7 +23,7 @@ struct Tally {
     not_immunized: usize,
 }
 
-// Judges a file of right shape, by a book with its guesses: the findings go to their area, and the index of the blocks to the front of a room.
+// Judges a file of right shape, by a book with its hash table: the findings go to their area, and the index of the blocks to the front of a room.
 fn judge_into(
     today: u32,
     file: &[u8],
@@ -85,7 +85,7 @@ fn settle_blocks(
     }
 }
 
-// From FINDINGS on, by a book with its guesses, in a room for the index.
+// From FINDINGS on, by a book with its hash table, in a room for the index.
 fn judge_and_settle(
     today: u32,
     file: &[u8],
@@ -110,7 +110,7 @@ fn judge_and_settle(
     }
 }
 
-// From FINDINGS on, by a book with its guesses. A file of right shape has 96154 blocks at most.
+// From FINDINGS on, by a book with its hash table. A file of right shape has 96154 blocks at most.
 fn lend_index_buffer(
     today: u32,
     file: &[u8],
@@ -128,7 +128,7 @@ fn lend_index_buffer(
     judge_and_settle(today, file, withHashTable, q, ledger, live, area, &mut room)
 }
 
-// From FINDINGS on, in a room for the book with its guesses.
+// From FINDINGS on, in a room for the book with its hash table.
 fn judge_by_hash(
     today: u32,
     file: &[u8],
@@ -148,7 +148,7 @@ fn judge_by_hash(
     lend_index_buffer(today, file, room, q, ledger, live, area)
 }
 
-// From FINDINGS on. A book has 262144 bytes at most, and its guesses have 65536.
+// From FINDINGS on. A book has 262144 bytes at most, and its hash table has 65536.
 fn lend_book_buffer(
     today: u32,
     file: &[u8],

@@ -62,7 +62,7 @@ malformed =
     -- an unknown kind
     (0 ∷ bytes "5099999999")
     ∷ (9 ∷ bytes "5099999999")
-    -- a short body, and bytes behind the last entry
+    -- a short body, and bytes after the last entry
     ∷ (3 ∷ bytes "509999999")
     ∷ (fifty ++ 3 ∷ [])
     -- a code that is not padded: empty, a blank before it, a blank in it

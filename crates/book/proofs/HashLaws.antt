@@ -1,4 +1,5 @@
--- What each need of the guesses asks: `mix`, `byte_at`, `guess`, `put_byte`, `note_row`, `note_rows`, `note_kinds`, `copy_book` and `guide`.
+-- What each need of the hash table asks: `hash`, `byte_at`, `hashed`, `put_byte`, `hash_entry`, `hash_entries`, `hash_kinds`, `copy_book` and
+-- `hash_book`.
 -- Assumes nothing.
 use mathlib.Core.Path.{_≡_, refl, sym, ap, _∙_}
 use mathlib.Core.Bool.{Bool, true, false, cond}
@@ -46,7 +47,7 @@ byte-past t at l = sym (List·getD-eq-default t 0 l)
 
 pub ruleset for-byte-at = (needs, byte-past)
 
--- guess: padding is not mixed in
+-- hashed: padding is not hashed
 mix-append : (h : ℕ) (x y : Text) → mix h (x ++ y) ≡ mix (mix h x) y
 unfolding mix
 mix-append h [] y = refl

@@ -1,4 +1,4 @@
--- The entries of one kind as rows of one width: where they stand, that their codes ascend, that bytes behind them alter nothing, and that a test of that
+-- The entries of one kind as rows of one width: where they stand, that their codes ascend, that bytes after them alter nothing, and that a test of that
 -- kind asks them alone.
 -- Assumes nothing.
 use mathlib.Core.Path.{_≡_, refl, sym, ap, _∙_, subst}
@@ -85,7 +85,7 @@ module _ (k : ℕ) where
   row-asc (suc n) c t r zero (suc j) h l = rw (row-first t, row-next t j) (row-above n _ (drop (bodyWidth k + 1) t) (r .3) j (le-of-suc-le-suc l))
   row-asc (suc n) c t r (suc i) (suc j) h l = rw (row-next t i, row-next t j) (row-asc n _ (drop (bodyWidth k + 1) t) (r .3) i j (le-of-suc-le-suc h) (le-of-suc-le-suc l))
 
-  -- bytes behind them alter nothing
+  -- bytes after them alter nothing
   module _ (more : Text) where
     entry-longer : (t : Text) → bodyWidth k + 1 ≤ length t → entryOf k (drop 1 (t ++ more)) ≡ entryOf k (drop 1 t)
     unfolding entryOf

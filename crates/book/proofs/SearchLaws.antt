@@ -177,7 +177,7 @@ module _ (o : Order) (at : ℕ) where
 
 pub ruleset for-found-if = (needs, found-less, found-more, found-same)
 
--- guessed
+-- at_hash
 module _ (s : Text) (q : Sections) (k : ℕ) (a b : Text) (f : fits k a b ≡ true) (from n i : ℕ) (ef : from ≡ sectionStart q k) (en : n ≡ countIn s q k) (ei : i ≡ guess s q k (codeText k a b)) where
   pub guessed-past : n ≤ i → Absent ≡ hashedIn s q k (codeText k a b)
   unfolding hashedIn

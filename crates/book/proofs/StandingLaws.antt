@@ -120,7 +120,7 @@ pub standing-none : (es : List Entry) (k : ℕ) (x : Text) (d : ℕ) → listed 
 unfolding standingOf
 standing-none es k x d h = rw h
 
--- a look-up in the section, by guess and by halving
+-- a look-up in the section, by hash and by binary search
 module _ (s book : Text) (q : Sections) (k n : ℕ) (sec : Section s book q k n) (x : Text) where
   abbrev from : ℕ
   from = sectionStart q k
@@ -203,7 +203,7 @@ module _ (s book : Text) (q : Sections) (k n : ℕ) (sec : Section s book q k n)
       go (hit m l o e) = rw e (hits m l o d)
       go (miss f e) = rw e (sym (standing-none (entries book) k x d (misses f)))
 
-  -- whatever the guess
+  -- whatever the hash table
   sought : (d : ℕ) → standingAt s d (soughtIn s q k x) ≡ standingOf (entries book) k x d
   unfolding soughtIn hashedIn foundIf searchedIn foundAt
   sought d = go (ltb i (countIn s q k)) refl (orderAt s k from x i) refl

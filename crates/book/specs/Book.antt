@@ -147,7 +147,7 @@ startedBy d e = cond (eqb (e .kind) vaccine) (leb (number (startOf e)) d) true
 unfoldable pub inForce : ℕ → Entry → Bool
 inForce d e = startedBy d e && leb d (number (endOf e))
 
--- the text with blanks behind it, up to w bytes. A longer text stays as it is, and is no code of that width.
+-- the text with blanks after it, up to w bytes. A longer text stays as it is, and is no code of that width.
 abbrev pub filled : ℕ → Text → Text
 filled zero t = t
 filled (suc w) [] = 32 ∷ filled w []

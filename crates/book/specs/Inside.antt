@@ -52,6 +52,6 @@ bodyHolds d k t = datesHold d k (drop (codeWidth k) t)
 unfoldable pub codePadded : ℕ → Text → Text → Text
 codePadded k a b = pad (firstWidth k) a ++ pad (secondWidth k) b
 
--- how the code of p bytes at a place, and the one of q behind it, stand to two texts, padded
+-- how the code of p bytes at a place, and the one of q after it, stand to two texts, padded
 unfoldable pub codeOrder : Text → ℕ → ℕ → ℕ → Text → Text → Order
 codeOrder s at p q a b = orderOf (take (p + q) (drop at s)) (pad p a ++ pad q b)

@@ -1,5 +1,5 @@
--- Look-up in any bytes, by any sections: the entry that a guess names is asked first, then halving goes on among the entries of one kind, which all
--- have the same width. For bytes that start with a valid book, by its own sections, it says what the entries say, whatever the guesses
+-- Look-up in any bytes, by any sections: the entry that the hash of a code names is asked first, then a binary search goes on among the entries of one kind, which all
+-- have the same width. For bytes that start with a valid book, by its own sections, it says what the entries say, whatever the hash table
 -- (proofs/StandingLaws).
 -- Assumes nothing.
 use Prim.Native.Nat.{ℕ, zero, suc, _+_, _-_, _*_, _/_, _%_}
@@ -50,12 +50,12 @@ foundAt k from i = At (record { at = placeOf k from i })
 unfoldable pub fits : ℕ → Text → Text → Bool
 fits k a b = leb (length a) (firstWidth k) && leb (length b) (secondWidth k)
 
--- the number below 32768 that a code is mixed to, from h on, at first its kind: by its bytes other than blanks, so the same with and without padding
+-- the number below 32768 that is the hash of a code, from h on, at first its kind: by its bytes other than blanks, so the same with and without padding
 unfoldable pub mix : ℕ → Text → ℕ
 mix h [] = h
 mix h (b ∷ t) = cond (eqb b 32) (mix h t) (mix ((h * 31 + b) % 32768) t)
 
--- which entry of a kind the table behind the last section names for a code: two bytes, the lower first; 0 for a byte that is not there
+-- which entry of a kind the table after the last section names for a code: two bytes, the lower first; 0 for a byte that is not there
 unfoldable pub guess : Text → Sections → ℕ → Text → ℕ
 guess s q k code =
     let table = drop (q .end) s in
@@ -66,13 +66,13 @@ guess s q k code =
 unfoldable pub foundIf : Order → ℕ → Found
 foundIf o at = byOrder o Absent (At (record { at = at })) Absent
 
--- where the entry that the guess names is, if there is one and it has the code
+-- where the entry that the hash names is, if there is one and it has the code
 unfoldable pub hashedIn : Text → Sections → ℕ → Text → Found
 hashedIn s q k code =
     let i = guess s q k code in
     cond (ltb i (countIn s q k)) (foundIf (orderAt s k (sectionStart q k) code i) (placeOf k (sectionStart q k) i)) Absent
 
--- where an entry with the code is, by halving
+-- where an entry with the code is, by binary search
 unfoldable pub searchedIn : Text → Sections → ℕ → Text → Found
 searchedIn s q k code = binarySearch (orderAt s k (sectionStart q k) code) (foundAt k (sectionStart q k)) Absent (countIn s q k) 0 (countIn s q k)
 
@@ -81,7 +81,7 @@ abbrev pub elseFound : Found → Found → Found
 elseFound (At p) f = At p
 elseFound Absent f = f
 
--- where an entry with the code is, by guess and then by halving
+-- where an entry with the code is, by hash and then by binary search
 unfoldable pub soughtIn : Text → Sections → ℕ → Text → Found
 soughtIn s q k code = elseFound (hashedIn s q k code) (searchedIn s q k code)
 
@@ -102,7 +102,7 @@ standingAt s d (At p) = cond (inForceAt d (drop (p .at) s)) InForce OutOfForce
 unfoldable pub standingIn : Text → Sections → ℕ → Text → Text → ℕ → Standing
 standingIn s q k a b d = standingAt s d (foundIn s q k a b)
 
--- A table of guesses
+-- The hash table
 
 -- entry i of those of kind k that start at `from`, noted in a table
 unfoldable pub noteRow : Text → ℕ → ℕ → ℕ → Text → Text
@@ -120,6 +120,6 @@ unfoldable pub noteKinds : Text → Sections → ℕ → Text → Text
 noteKinds s q zero t = t
 noteKinds s q (suc k) t = noteRows s (suc k) (sectionStart q (suc k)) (countIn s q (suc k)) (noteKinds s q k t)
 
--- a book at the front of a room, and its entries noted behind it; the room as it is where it is too small for the book
+-- a book at the front of a room, and its entries noted after it; the room as it is where it is too small for the book
 unfoldable pub withHashTable : Text → Sections → Text → Text
 withHashTable s q room = cond (leb (length s) (length room)) (s ++ noteKinds s q 8 (drop (length s) room)) room

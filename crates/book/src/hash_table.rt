@@ -1,5 +1,5 @@
-// Guesses: a table behind a book that says, by a number that a code is mixed to, which entry of its kind to ask first. In a valid book a guess that is
-// wrong costs time and alters no answer.
+// The hash table after a book: for the hash of a code, which entry of its kind to ask first. In a valid book an entry that has another code costs
+// time and alters no answer.
 use crate::Sections;
 use crate::search::Widths;
 use crate::search::section_count;
@@ -19,7 +19,7 @@ fn value(b: u8) -> usize
     b as usize
 }
 
-// The number that a text is mixed to, from another on.
+// The hash of a text, from another on.
 fn hash(from: usize, text: &[u8]) -> usize
     requires { ⌜ from < 32768 ⌝ }
     ensures { λ r. ⌜ r ≡ mix from (now (text .entry)) ⌝ }
@@ -51,7 +51,7 @@ fn byte_at(table: &[u8], at: usize) -> usize
     }
 }
 
-// Which entry of a kind the table behind a book names for a code, given as for find.
+// Which entry of a kind the table after a book names for a code, given as for find.
 pub(crate) fn hashed(book: &[u8], sections: Sections, k: u8, a: &[u8], b: &[u8]) -> usize
     ensures { λ r. ⌜ r ≡ guess (now (book .entry)) sections k (codeText k (now (a .entry)) (now (b .entry))) ⌝ }
 {

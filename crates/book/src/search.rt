@@ -1,4 +1,4 @@
-// Look-up: the entry that a guess names is asked first, then a binary search goes on among the entries of one kind, which all have the same width.
+// Look-up: the entry that the hash of a code names is asked first, then a binary search goes on among the entries of one kind, which all have the same width.
 use crate::Found;
 use crate::Position;
 use crate::Sections;
@@ -68,7 +68,7 @@ pub(crate) fn widths_of(k: u8) -> Widths
     }
 }
 
-// How the code of p bytes at a place, and the one of q behind it, stand to two texts, padded.
+// How the code of p bytes at a place, and the one of q after it, stand to two texts, padded.
 fn code_order(book: &[u8], at: usize, p: usize, q: usize, a: &[u8], b: &[u8]) -> Order
     requires { ⌜ at + p + q ≤ length (now book) ⌝ }
     ensures { λ r. ⌜ r ≡ codeOrder (now (book .entry)) at p q (now (a .entry)) (now (b .entry)) ⌝ }
@@ -137,7 +137,7 @@ fn found_if(p: Probed) -> Found
     }
 }
 
-// The entry that the guess for a code names, if it has that code.
+// The entry that the hash of a code names, if it has that code.
 fn at_hash(book: &[u8], sections: Sections, kind: u8, a: &[u8], b: &[u8]) -> Found
     requires { ⌜ kind ≤ 8 ⌝ }
     requires { ⌜ fits kind (now a) (now b) ≡ true ⌝ }
@@ -154,7 +154,7 @@ fn at_hash(book: &[u8], sections: Sections, kind: u8, a: &[u8], b: &[u8]) -> Fou
     }
 }
 
-// The search by halves: entries lo to hi are left of those of the section.
+// The binary search: entries lo to hi are left of those of the section.
 fn binary_search(book: &[u8], sections: Sections, kind: u8, a: &[u8], b: &[u8]) -> Found
     requires { ⌜ kind ≤ 8 ⌝ }
     requires { ⌜ fits kind (now a) (now b) ≡ true ⌝ }
@@ -185,7 +185,7 @@ fn binary_search(book: &[u8], sections: Sections, kind: u8, a: &[u8], b: &[u8]) 
     Found::Absent
 }
 
-// The entry of a kind with a code, by guess or by halves.
+// The entry of a kind with a code, by hash or by binary search.
 fn sought(book: &[u8], sections: Sections, kind: u8, a: &[u8], b: &[u8]) -> Found
     requires { ⌜ kind ≤ 8 ⌝ }
     requires { ⌜ fits kind (now a) (now b) ≡ true ⌝ }

@@ -19,7 +19,7 @@ module _ {B : Type 0} (row : ℕ → Order) (place : ℕ → B) (none : B) where
   stop zero lo hi h = refl
   stop (suc f) lo hi h = rw (le-ltb lo hi h)
 
-  -- x is what the halving from lo to hi finds
+  -- x is what the binary search from lo to hi finds
   pub record Halves (x : B) (lo hi : ℕ) : Type 0 where
     pub fuel : ℕ
     pub enough : hi - lo ≤ fuel
@@ -58,7 +58,7 @@ module _ {B : Type 0} (row : ℕ → Order) (place : ℕ → B) (none : B) where
   abbrev pub Ascends : ℕ → Type 0
   Ascends n = (i j : ℕ) → i < j → j < n → (row i ≡ Less) ⊎ (row j ≡ More)
 
-  -- n rows that climb, of which several may be what is sought: before a row below it all are below it, behind a row above it all are above it
+  -- n rows that climb, of which several may be what is sought: before a row below it all are below it, after a row above it all are above it
   abbrev pub Climbs : ℕ → Type 0
   Climbs n = (i j : ℕ) → i < j → j < n → (row j ≡ Less → row i ≡ Less) × (row i ≡ More → row j ≡ More)
 

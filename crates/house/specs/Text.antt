@@ -142,7 +142,7 @@ number t = numberFrom 0 t
 
 -- Padded codes
 
--- w bytes in all: the text with blanks behind it, or as much of it as fits
+-- w bytes in all: the text with blanks after it, or as much of it as fits
 unfoldable pub pad : ℕ → Text → Text
 pad zero t = []
 pad (suc w) [] = 32 ∷ pad w []

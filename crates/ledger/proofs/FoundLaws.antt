@@ -1,4 +1,4 @@
--- In a ledger in order: how many events are live, that they ascend, and that halving finds an event exactly if it is among them.
+-- In a ledger in order: how many events are live, that they ascend, and that a binary search finds an event exactly if it is among them.
 -- Assumes nothing.
 use mathlib.Core.Path.{_≡_, refl, sym, ap, _∙_, subst}
 use mathlib.Core.Logic.{_⊎_, inl, inr, ⊎-elim}
@@ -92,7 +92,7 @@ module _ (l : Text) (h : adjacent slotFollows (slots l) ≡ true) where
     decided x (hit m k s q) = q ∙ sym (among-at e m (liveIn l) k (sym (event-at m k) ∙ same-eq (eventIn l m) e s))
     decided x (miss f q) = q ∙ sym (among-nowhere e (liveIn l) (λ i k g. f i k (ap (λ (y : Text). orderOf y e) (event-at i k ∙ g) ∙ order-refl e)))
 
-    -- halving finds what is live
+    -- a binary search finds what is live
     pub found-among : (n : ℕ) → n ≡ length (liveIn l) → foundIn l n e ≡ isAmong (liveIn l) e
     unfolding foundIn slotsAsked slotsIn
     found-among n q =

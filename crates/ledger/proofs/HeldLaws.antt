@@ -266,7 +266,7 @@ free-slot : (t : Text) → T (slotForm t) → isLiveSlot t ≡ false → t ≡ z
 unfolding slotForm
 free-slot t f e = zero-bytes t (subst (λ (b : Bool). T (cond b (eventForm (drop 1 t)) (isFreeSlot t))) e f)
 
--- behind a free slot all are free
+-- after a free slot all are free
 dead-next : (t u : Text) → T (slotFollows t u) → isLiveSlot t ≡ false → isLiveSlot u ≡ false
 unfolding slotFollows
 dead-next t u f e = go (isLiveSlot u) f

@@ -1,4 +1,4 @@
--- The live slots of a ledger in order: they stand first and ascend, and each is its event behind kind 1. What the order of events says of their slots.
+-- The live slots of a ledger in order: they stand first and ascend, and each is its event after kind 1. What the order of events says of their slots.
 -- Assumes nothing.
 use mathlib.Core.Path.{_≡_, refl, sym, ap, ap₂, _∙_, subst}
 use mathlib.Core.Bool.{Bool, true, false, not, cond, _&&_, _||_}
@@ -61,7 +61,7 @@ in-order (x ∷ xs) h = go (isLiveSlot x) refl
     go true e = let r = live-rest x xs h in (ap (λ (l : List Text). x ∷ l) (r .0), r .1)
     go false e = rw (free-rest x xs e h) (refl, tt)
 
--- a live slot is its event behind kind 1
+-- a live slot is its event after kind 1
 pub live-slots : (ts : List Text) → map liveSlot (map (drop 1) (those isLiveSlot ts)) ≡ those isLiveSlot ts
 live-slots [] = refl
 live-slots (t ∷ ts) = go (isLiveSlot t) refl (live-slots ts)

@@ -34,7 +34,7 @@ stands-is s t i k o e n p = p ∙ ap (λ (l : Text). orderOf l k) (take-all 37 (
 
 pub ruleset for-stands = (needs, stands-is)
 
--- is_live: what the halving still has to do
+-- is_live: what the binary search still has to do
 abbrev pub Looks : Text → Text → Bool → ℕ → ℕ → Type 0
 Looks s k x lo hi = Halves (λ (i : ℕ). orderOf (eventIn s i) k) (λ (i : ℕ). true) false x lo hi
 

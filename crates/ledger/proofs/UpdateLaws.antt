@@ -130,7 +130,7 @@ flat-chop (suc c) (suc n) l h =
     let e : 38 + c * 38 ≡ suc c * 38 = omega arith in
     ap (λ (r : Text). take 38 l ++ r) (flat-chop c n (drop 38 l) (le-of-suc-le-suc h)) ∙ sym (take-add 38 (c * 38) l) ∙ ap (λ (k : ℕ). take k l) e
 
--- the first c slots, one behind the other, are the first bytes
+-- the first c slots, one after the other, are the first bytes
 flat-slots : (l : Text) (c : ℕ) → c ≤ length l / 38 → joined whole (take c (slots l)) ≡ take (c * 38) l
 unfolding slots slotsIn
 flat-slots l c h = flat-chop c (length l / 38) l h

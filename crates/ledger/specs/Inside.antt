@@ -14,7 +14,7 @@ use Rattle.ledger.specs.declared.Validity.{Validity}
 use Rattle.ledger.specs.declared.Validity.the-variants.{Sound, Malformed}
 use Rattle.ledger.specs.Ledger.{slotBytes, slots, isLiveSlot, slotForm, slotFollows, liveIn, foundIn, liveSlot, eventsAfter}
 
--- the first of the slots behind slot t, if there is one, may follow it
+-- the first of the slots after slot t, if there is one, may follow it
 unfoldable pub followed : Text → List Text → Bool
 followed t [] = true
 followed t (u ∷ us) = slotFollows t u

@@ -80,7 +80,7 @@ eventIn s i = drop 1 (getD (slots s) i [])
 unfoldable pub slotsAsked : Text → ℕ → ℕ
 slotsAsked s n = cond (leb n (slotsIn s)) n (slotsIn s)
 
--- what halving the first n slots finds. Of a ledger that is well formed, whose live events are n, it is whether the event is live.
+-- what a binary search of the first n slots finds. Of a ledger that is well formed, whose live events are n, it is whether the event is live.
 unfoldable pub foundIn : Text → ℕ → Event → Bool
 foundIn s n e = binarySearch (λ (i : ℕ). orderOf (eventIn s i) e) (λ (i : ℕ). true) false (slotsAsked s n) 0 (slotsAsked s n)
 

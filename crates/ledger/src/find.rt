@@ -26,7 +26,7 @@ fn stands(ledger: &[u8], i: usize, key: [u8; 37]) -> Order
     house::compare(&s[1..38], &key)
 }
 
-// Whether an event is live: a search by halves among the first slots, as many as are said to be live.
+// Whether an event is live: a binary search among the first slots, as many as are said to be live.
 pub fn is_live(ledger: &[u8], live: usize, key: [u8; 37]) -> bool
     ensures { λ r. ⌜ r ≡ foundIn (now (ledger .entry)) live key ⌝ }
 {

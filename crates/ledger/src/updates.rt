@@ -1,4 +1,4 @@
-// What an accepted file does to a ledger: what it deletes goes, what it adds comes in, and the slots behind are free.
+// What an accepted file does to a ledger: what it deletes goes, what it adds comes in, and the slots after are free.
 use crate::find::is_live;
 use crate::form::count_live;
 use crate::form::in_order;
@@ -209,7 +209,7 @@ fn is_fit(ledger: &[u8], file: &[u8], adds: &[u32], deletes: &[u32]) -> bool
     }
 }
 
-// Deletes and adds, and frees the slots behind what is live then.
+// Deletes and adds, and frees the slots after what is live then.
 fn apply(ledger: &mut [u8], file: &[u8], adds: &[u32], deletes: &[u32])
     requires { ⌜ Fit (now ledger) (now file) (now adds) (now deletes) ⌝ }
     ensures { λ _. ⌜ now (ledger .exit) ≡ ledgerWith (length (now (ledger .entry))) (eventsAfter (liveIn (now (ledger .entry))) (eventsAt (now (file .entry)) (now (adds .entry))) (eventsAt (now (file .entry)) (now (deletes .entry)))) ⌝ }

@@ -119,7 +119,7 @@ pub alone : (s : Text) → lineOf s .ended ≡ true → linesOf (take (lineLen s
 unfolding lineOf linesOf textLen lineLen byEnding endingOf lfNext
 alone = by-ending Alone (λ k. clash (cc)) alone-on (λ s h k. refl) (λ s h k. refl)
 
--- a line that has more behind it has its LF
+-- a line that has more after it has its LF
 text-all : (s : Text) → lineOf s .ended ≡ false → lineLen s ≡ length s
 unfolding lineOf linesOf textLen lineLen byEnding endingOf lfNext
 text-all =

@@ -35,7 +35,7 @@ IA = 7
 abbrev pub IF : ℕ
 IF = 8
 
--- the kind that the letter behind the I names
+-- the kind that the letter after the I names
 unfoldable pub letterKind : ℕ → ℕ
 letterKind b =
     cond (eqb b (code "V")) IV

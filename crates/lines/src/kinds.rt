@@ -20,7 +20,7 @@ pub const IA: u8 = 7;
 
 pub const IF: u8 = 8;
 
-// The kind by the letter behind the I, 0 for none.
+// The kind by the letter after the I, 0 for none.
 fn letter_kind(b: u8) -> u8
     ensures { λ r. ⌜ r ≡ letterKind b ⌝ }
 {

@@ -78,7 +78,7 @@ fields-le (suc f) (b ∷ t) = go (eqb b pipe) (fields-le f t) (fields-le (suc f)
     go true h k = omega arith
     go false h k = omega arith
 
--- the fields that end in a text's first n bytes, and those that end behind
+-- the fields that end in a text's first n bytes, and those that end after
 pub fields-split : (n : ℕ) (t : Text) → length (fieldsOf t) ≡ length (fieldsOf (take n t)) + length (fieldsOf (drop n t))
 unfolding fieldsOf
 fields-split zero t = simp zero-add
@@ -119,7 +119,7 @@ fields-few (b ∷ t) = go (eqb b pipe) (fields-few t)
 pub field-first : (k : ℕ) (t : Text) → getD (fieldsOf t) k [] ≡ getD (fieldsOf (drop (fieldsLen k t) t)) 0 []
 field-first k t = rw (fields-after, getD-drop, add-zero)
 
--- The fields one after the other: from where the field after f fields starts, the first pipe ends it, and the next one starts behind that pipe
+-- The fields one after the other: from where the field after f fields starts, the first pipe ends it, and the next one starts after that pipe
 module _ (t : Text) (at f : ℕ) (e : fieldsOf (drop at t) ≡ drop f (fieldsOf t)) (h : f < length (fieldsOf t)) where
   next-pipe : pipeLen (drop at t) < length (drop at t)
   next-pipe = go (ltb (pipeLen (drop at t)) (length (drop at t))) refl

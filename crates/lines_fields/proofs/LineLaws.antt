@@ -143,7 +143,7 @@ pub lines-past : (s : Text) (at : ℕ) → length s ≤ at → linesOf (drop at 
 unfolding linesOf
 lines-past s at h = rw (drop-past s at h)
 
--- the text of line n is that of the line which starts behind the lines before it
+-- the text of line n is that of the line which starts after the lines before it
 no-text : (k : ℕ) → getD (linesOf []) k noLine .text ≡ lineOf [] .text
 unfolding linesOf lineOf
 no-text k = refl
@@ -186,7 +186,7 @@ module _ (s : Text) (at : ℕ) (q : LineAt) (e : LineIs s at q) where
   pub at-line : lineOf (drop at s) ≡ record { text = take (q .end - at) (drop at s); ended = q .lf }
   at-line = rw (at-text, at-lf)
 
-  -- the next line starts behind it, and the lines from its start on are it and those from there on
+  -- the next line starts after it, and the lines from its start on are it and those from there on
   module _ (h : at < length s) where
     pub at-from : at ≤ q .end
     at-from = e .from

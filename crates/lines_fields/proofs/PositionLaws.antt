@@ -19,7 +19,7 @@ use Rattle.lines_fields.proofs.LineLaws.{text-is, text-after, text-from
 use Rattle.lines_fields.proofs.FieldLaws.{fields-first, fields-none, fields-after, fields-le, field-first}
 use Rattle.lines_fields.proofs.CutLaws.{part-drop}
 
--- a text behind its first k fields
+-- a text after its first k fields
 abbrev behind : ℕ → Text → Text
 behind k t = drop (fieldsLen k t) t
 

@@ -70,7 +70,7 @@ unfoldable pub lineAt : ℕ → Text → LineAt
 lineAt at s = record { end = at + textLen s; next = at + lineLen s; lf = lineOf s .ended }
 
 -- r is the line that starts at position at of the file s. What follows from it is said too, for those who cut the line out of the
--- file: it lies behind its start and, unless that is past the file's end, within the file.
+-- file: it lies after its start and, unless that is past the file's end, within the file.
 pub record LineIs (s : Text) (at : ℕ) (r : LineAt) : Type 0 where
   pub exact : r ≡ lineAt at (drop at s)
   pub from : at ≤ r .end
@@ -107,7 +107,7 @@ unfoldable pub fieldThere : Text → ℕ → ℕ → Bool
 fieldThere s n zero = false
 fieldThere s n (suc f) = ltb f (length (fieldsOf (textAt s n)))
 
--- Where that part starts in the file: behind the lines before its line, and in its line behind the fields before it
+-- Where that part starts in the file: after the lines before its line, and in its line after the fields before it
 
 -- how many bytes the first k lines have with their endings
 unfoldable pub linesLen : ℕ → Text → ℕ

@@ -102,7 +102,7 @@ pub fn line_at(file: &[u8], at: usize) -> LineAt
     }
 }
 
-// Where the line behind k lines starts; the file's end where there is none.
+// Where the line after k lines starts; the file's end where there is none.
 pub(crate) fn line_start(file: &[u8], k: usize) -> usize
     ensures { λ r. ⌜ r ≡ linesLen k (now (file .entry)) ⌝ }
     ensures { λ r. ⌜ r ≤ length (now (file .entry)) ⌝ }

@@ -1,4 +1,4 @@
--- Fields that no rule is placed on have no findings: those of an II behind 15, and those of an IP but 2, 3 and 25.
+-- Fields that no rule is placed on have no findings: those of an II after 15, and those of an IP but 2, 3 and 25.
 -- Assumes nothing.
 use mathlib.Core.Path.{_≡_, refl, ap, _∙_}
 use mathlib.Core.List.{[], _++_, append-assoc, append-nil}

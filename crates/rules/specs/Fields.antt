@@ -23,7 +23,7 @@ use Rattle.rules_fields.specs.Look.{knownBy, forceBy}
 unfoldable pub laterAt : Setting → Seen → ℕ → List ℕ
 laterAt s v f = brokenBy s v f (drop 2 (rulesOf s))
 
--- how many of n fields of a record of kind k are judged: no rule is placed behind II 15
+-- how many of n fields of a record of kind k are judged: no rule is placed after II 15
 unfoldable pub judgedFields : ℕ → ℕ → ℕ
 judgedFields k n = cond (eqb k II && ltb 15 n) 15 n
 

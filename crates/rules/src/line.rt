@@ -103,7 +103,7 @@ fn judge_field(
     }
 }
 
-// Where the field behind the one that starts at a position of a line with text t starts.
+// Where the field after the one that starts at a position of a line with text t starts.
 fn next_start(line: &[u8], at: usize, t: &[u8]) -> usize
     requires { ⌜ at + length (now t) < length (now line) ⌝ }
     ensures { λ r. ⌜ r ≡ at + length (now (t .entry)) + 1 ⌝ }
@@ -111,7 +111,7 @@ fn next_start(line: &[u8], at: usize, t: &[u8]) -> usize
     at + t.len() + 1
 }
 
-// How many fields of a line of kind k are judged: no rule is placed behind II 15.
+// How many fields of a line of kind k are judged: no rule is placed after II 15.
 fn judged_fields(k: u8, line: &[u8]) -> usize
     ensures { λ r. ⌜ r ≡ judgedFields k (length (fieldsOf (now (line .entry)))) ⌝ }
 {

@@ -54,7 +54,7 @@ hasSecond [] = false
 hasSecond (l ∷ before) = cond (isKind IE l) (hasSecond before) (joinsOpen l before)
 
 -- where a block is open after these lines, the IE lines of its first II, nearest first: an IE is one of them until a second II joins; an II
--- that joins adds none; behind any other line there are none yet
+-- that joins adds none; after any other line there are none yet
 abbrev pub firstOpen : List Rec → List Rec
 firstOpen [] = []
 firstOpen (l ∷ before) =

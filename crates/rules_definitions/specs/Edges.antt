@@ -135,7 +135,7 @@ edge14 =
     (fileWith "II|2|123456789|A||20220901||TESTV|LA|IM|50|0.5|ML|GSK|1||||||||" "II|4|123456789|A||20220901||TESTV|LA|IM|50|0.5|ML|GSK|01||||||||" seven)
     []
 
--- an event met again behind another: each II of the later block; and under a second IP
+-- an event met again after another: each II of the later block; and under a second IP
 unfoldable pub edge15 : Bool
 edge15 =
     edited

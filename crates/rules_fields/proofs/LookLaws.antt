@@ -28,7 +28,7 @@ use Rattle.rules_forms.proofs.FieldLaws.{text-is, empty-true, empty-false}
 use Rattle.rules_fields.specs.Look.{foundBy, knownBy, forceBy}
 use Rattle.rules_fields.specs.Fields.{codeLater, unpairedBy}
 
--- a text with blanks behind it: as long as its width, unless it is longer
+-- a text with blanks after it: as long as its width, unless it is longer
 filled-fits : (w : ℕ) (t : Text) → length t ≤ w → length (filled w t) ≡ w
 filled-fits zero [] h = refl
 filled-fits zero (b ∷ t) h = absurd (omega arith)

@@ -121,7 +121,7 @@ module _ (k f : ℕ) where
 
 pub ruleset for-is-judged = (needs, judged-iv, judged-ih, judged-ie, judged-in, judged-ia, judged-if, judged-ip, judged-ii, judged-25, judged-7, judged-none)
 
--- behind: a text's rest, and its fields
+-- after: a text's rest, and its fields
 module _ (t : Text) (f s : ℕ) (e : s ≡ fieldsLen f t) where
   pub behind-in : s ≤ length t
   behind-in = rw e (fields-le f t)

@@ -156,7 +156,7 @@ fn is_judged(kind: u8, f: usize) -> bool
     }
 }
 
-// A line's text behind its first f fields.
+// A line's text after its first f fields.
 pub fn after_fields(text: &[u8], f: usize) -> &[u8]
     ensures { λ r. ⌜ now r ≡ drop (fieldsLen f (now (text .entry))) (now (text .entry)) ⌝ }
 {

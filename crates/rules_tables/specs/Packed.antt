@@ -7,7 +7,7 @@ use lib.ListN.{length, getD}
 use lib.Dec.{ltb}
 use Rattle.house.specs.Text.{Text}
 
--- A text of at most three bytes as one number: its length, and its bytes behind it; 0 for a longer one
+-- A text of at most three bytes as one number: its length, and its bytes after it; 0 for a longer one
 unfoldable pub packedOf : Text → ℕ
 packedOf t = cond (ltb 3 (length t)) 0 (length t * 16777216 + getD t 0 0 * 65536 + getD t 1 0 * 256 + getD t 2 0)
 

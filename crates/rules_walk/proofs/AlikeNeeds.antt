@@ -172,7 +172,7 @@ module _ (n : ℕ) (a b : Text) where
 
 pub ruleset for-same-from = (needs, from-other, from-0, from-1, from-2, from-3, from-4, from-5, from-all)
 
--- joins: the lines a and b go on at p and q, and these behind n fields that are alike
+-- joins: the lines a and b go on at p and q, and these after n fields that are alike
 module _ (t u : Text) (n at : ℕ) (g : InCommon t u n at) where
   pub start-here : at ≤ length t
   start-here = rw (g .here) (fields-le n t)

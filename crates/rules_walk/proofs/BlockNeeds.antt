@@ -112,7 +112,7 @@ module _ (t : Text) (x : Bool) (h : x ≡ true) where
 pub long-as : (s t : Text) → t ≡ fieldOf s 1 → length t ≡ length (fieldOf s 1)
 long-as s t d = ap length d
 
--- is_dated_code, is_typed_code: s goes on at r behind its first field, and at q behind one more
+-- is_dated_code, is_typed_code: s goes on at r after its first field, and at q after one more
 module _ (s t : Text) (d : t ≡ fieldOf s 1) (x : Bool) where
   pub dated-not : x ≡ isDate t → x ≡ false → false ≡ datedFrom s
   unfolding datedFrom

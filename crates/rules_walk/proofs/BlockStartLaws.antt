@@ -1,4 +1,4 @@
--- Where the second field of a text starts: behind the first and its pipe.
+-- Where the second field of a text starts: after the first and its pipe.
 -- Assumes nothing.
 use mathlib.Core.Path.{_≡_, ap}
 use mathlib.Core.Bool.{Bool, true, false, cond}

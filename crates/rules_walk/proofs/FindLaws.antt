@@ -228,7 +228,7 @@ module _ (f : Text) (e : Event) (b : ℕ) where
           none true q = let r = any-at sought xs (of-true (any sought xs) q) in absurd (n (r .0) (r .1) (stands-sought (getD xs (r .0) 0) (r .2)))
           none false q = refl
 
--- what halving the index of a file finds
+-- what a binary search of the index of a file finds
 pub found-named : (f : Text) (e : Event) (b : ℕ) → foundBefore f (indexOf f) e b ≡ namedBefore f b e
 unfolding namedBefore
 found-named f e b = found-any f e b (indexOf f) (index-ordered f) ∙ index-any f (λ (p : ℕ). ltb p b && same (eventAt f p) e)

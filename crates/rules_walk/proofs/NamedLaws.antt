@@ -187,7 +187,7 @@ module _ (f : Text) (l : Rec) where
     pub named-firsts : (bs : List Rec) → Passed f bs → any (λ (p : Rec). isInBlock p && sameEvent l p) bs ≡ any (λ (p : ℕ). same (eventAt f p) (eventOf l)) (firstsIn f bs)
     named-firsts bs c = bool-ext (any (names l) bs) (any (hits f (eventOf l)) (firstsIn f bs)) (named-there bs c) (named-back bs c)
 
--- of all the first II lines, those that start before the line at hand are those behind
+-- of all the first II lines, those that start before the line at hand are those after
 pub named-behind : (f : Text) (e : Event) (bs : List Rec) → Passed f bs → namedBefore f (startAfter f bs) e ≡ any (λ (p : ℕ). same (eventAt f p) e) (firstsIn f bs)
 unfolding namedBefore
 named-behind f e bs c =

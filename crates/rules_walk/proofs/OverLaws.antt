@@ -22,7 +22,7 @@ over-front (x ∷ xs) (y ∷ out) h = ap (λ (l : List ℕ). x ∷ l) (over-fron
 pub over-taken : (xs out : List ℕ) (n : ℕ) → length xs ≡ n → length xs ≤ length out → take n (over xs out) ≡ xs
 over-taken xs out n e h = ap (take n) (over-front xs out h) ∙ take-at xs (drop (length xs) out) n e
 
--- one more is written behind the others
+-- one more is written after the others
 pub over-more : (xs : List ℕ) (x : ℕ) (out : List ℕ) → over (xs ++ (x ∷ [])) out ≡ set (over xs out) (length xs) x
 over-more [] x [] = refl
 over-more [] x (y ∷ out) = refl

@@ -1,4 +1,4 @@
--- A pass over the lines: the line at a position, the lines after it, and the first II lines behind and ahead.
+-- A pass over the lines: the line at a position, the lines after it, and the first II lines after and ahead.
 -- Assumes nothing.
 use mathlib.Core.Path.{_≡_, refl, sym, ap, _∙_, subst}
 use mathlib.Core.Logic.{inl, inr}
@@ -22,7 +22,7 @@ use Rattle.rules_definitions.specs.Blocks.{begins}
 use Rattle.rules_walk.specs.Firsts.{startAfter, isFirst, startOf, firstsOf}
 use Rattle.rules_walk.specs.Inside.{recAt, nextLine, Passed, firstsFrom, firstsIn}
 
--- what holds of every text: of one of no bytes, and with the lines behind the first, of any
+-- what holds of every text: of one of no bytes, and with the lines after the first, of any
 module _ (P : Text → Type 0) (nil : P []) (on : (s : Text) → 0 < length s → P (drop (lineLen s) s) → P s) where
   one : (n : ℕ) → ((t : Text) → length t ≤ n → P t) → (s : Text) → length s ≤ suc n → P s
   one n rec [] h = nil
@@ -99,7 +99,7 @@ pub place-passed : (f : Text) (h : Context) → In h (contextsIn f) → Passed f
 unfolding contextsIn contextsOf linesLen
 place-passed f h m = passed-all f 1 [] (recs f) tt refl h m
 
--- the first II lines ahead: that of the line at hand, if it is one, and those behind it
+-- the first II lines ahead: that of the line at hand, if it is one, and those after it
 pub firsts-on : (f : Text) (before : List Rec) (l : Rec) (ls : List Rec)
     → firstsFrom f before (l ∷ ls) ≡ cond (begins l before) (startAfter f before ∷ firstsFrom f (l ∷ before) ls) (firstsFrom f (l ∷ before) ls)
 unfolding firstsFrom
@@ -120,7 +120,7 @@ pub firsts-none : (f : Text) (before : List Rec) (p : ℕ) → length f ≤ p �
 unfolding firstsFrom
 firsts-none f before p h = rw (recs-past f p h)
 
--- a first II line passes a test exactly if one behind or one ahead does
+-- a first II line passes a test exactly if one after or one ahead does
 swap : (a b c : Bool) → (a || (b || c)) ≡ ((b || a) || c)
 swap true true c = refl
 swap true false c = refl
@@ -146,7 +146,7 @@ firsts-split f q (l ∷ before) p =
     go true = swap (any q (firstsIn f before)) (q (startAfter f before)) (any q rest)
     go false = refl
 
--- those behind start before the line at hand, those ahead do not
+-- those after start before the line at hand, those ahead do not
 module _ (f : Text) (q : ℕ → Bool) (b : ℕ) where
   pub firsts-behind : (before : List Rec) → Passed f before → startAfter f before ≤ b → any (λ (p : ℕ). ltb p b && q p) (firstsIn f before) ≡ any q (firstsIn f before)
   firsts-behind [] p h = refl

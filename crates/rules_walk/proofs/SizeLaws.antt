@@ -1,4 +1,4 @@
--- How many blocks a file of right shape has: an II in a block takes 44 bytes at least, and the IE behind it 8.
+-- How many blocks a file of right shape has: an II in a block takes 44 bytes at least, and the IE after it 8.
 -- Assumes nothing.
 use mathlib.Core.Path.{_≡_, refl, sym, ap, _∙_, subst}
 use mathlib.Core.Bool.{Bool, true, false, not, cond}
@@ -45,7 +45,7 @@ fields-size (b ∷ t) = go (eqb b pipe) (fieldsOf t) (fields-size t)
     go true fs h = omega arith
     go false fs h = omega (arith, longer fs)
 
--- the first field and those behind it; those behind are a pipe each at least
+-- the first field and those after it; those after are a pipe each at least
 sizes-first : (fs : List Text) (n : ℕ) → n < length fs → suc (length (getD fs n [])) + sizes (drop (suc n) fs) ≤ sizes (drop n fs)
 sizes-first [] n h = absurd (omega arith)
 sizes-first (t ∷ ts) zero h = omega arith

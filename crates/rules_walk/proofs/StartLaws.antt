@@ -22,7 +22,7 @@ use Rattle.rules_walk.specs.Inside.{recAt, nextLine, Passed}
 use Rattle.rules_walk.proofs.PassLaws.{by-lines, recs-first, start-on}
 use Rattle.rules_walk.proofs.NamedLaws.{named-firsts, named-behind}
 
--- 1. The first line of a text whose lines have their LF, with more behind it
+-- 1. The first line of a text whose lines have their LF, with more after it
 
 ending-kept : (x b : Text) → (endingOf x ≡ 0 → ⊥) → endingOf (x ++ b) ≡ endingOf x
 unfolding endingOf lfNext

@@ -85,7 +85,7 @@ partOf f type ps = those (isTyped f type) ps
 unfoldable pub standing : Text → Event → ℕ → ℕ → Order
 standing f e b p = byOrder (orderOf (eventAt f p) e) Less (cond (ltb p b) Same More) More
 
--- what halving an index finds. Of the index of the file it is whether a first II line that starts before b names the event.
+-- what a binary search of an index finds. Of the index of the file it is whether a first II line that starts before b names the event.
 unfoldable pub foundBefore : Text → List ℕ → Event → ℕ → Bool
 foundBefore f index e b =
     binarySearch (λ (i : ℕ). standing f e b (getD index i 0)) (λ (i : ℕ). true) false (length index) 0 (length index)

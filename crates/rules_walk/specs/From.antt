@@ -26,7 +26,7 @@ sameDated t u = same (fieldOf t 1) (fieldOf u 1) && same (fieldOf t 3) (fieldOf 
 unfoldable pub sameTyped : Text → Text → Bool
 sameTyped t u = same (fieldOf t 1) (fieldOf u 1) && (same (fieldOf t 3) (fieldOf u 3) && same (fieldOf t 5) (fieldOf u 5))
 
--- two IIs, given from behind their first n fields, counted from field 3, which are alike: is field f, counted so, the same? It is one of those n, or it is
+-- two IIs, given from after their first n fields, counted from field 3, which are alike: is field f, counted so, the same? It is one of those n, or it is
 -- the same in both texts
 unfoldable pub sameBehind : ℕ → ℕ → Text → Text → Bool
 sameBehind n f t u = leb f n || same (fieldOf t (f - n)) (fieldOf u (f - n))

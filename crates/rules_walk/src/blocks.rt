@@ -78,7 +78,7 @@ fn alike(a: &[u8], b: &[u8]) -> Common
     Common { fields, at }
 }
 
-// Whether two IIs are of one event and one type. Both are given from behind their first fields, counted from field 3: so many, which are alike.
+// Whether two IIs are of one event and one type. Both are given from after their first fields, counted from field 3: so many, which are alike.
 fn same_from(fields: usize, a: &[u8], b: &[u8]) -> bool
     ensures { λ r. ⌜ r ≡ sameFrom fields (now (a .entry)) (now (b .entry)) ⌝ }
 {
@@ -110,7 +110,7 @@ pub fn joins(a: &[u8], b: &[u8]) -> bool
     same_from(l.fields, &p[at..], &q[at..])
 }
 
-// A text behind its first field, which has so many bytes and is not empty.
+// A text after its first field, which has so many bytes and is not empty.
 fn past(text: &[u8], len: usize) -> &[u8]
     requires { ⌜ len ≡ length (fieldOf (now text) 1) ⌝ }
     requires { ⌜ 1 ≤ len ⌝ }

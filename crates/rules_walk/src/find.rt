@@ -17,7 +17,7 @@ fn stands(file: &[u8], p: u32, key: [u8; 37], b: usize) -> Order
     }
 }
 
-// Whether a first II line that starts before b names an event: a search by halves in the index of the file.
+// Whether a first II line that starts before b names an event: a binary search in the index of the file.
 pub fn rule15_named_before(file: &[u8], index: &[u32], key: [u8; 37], b: usize) -> bool
     ensures { λ r. ⌜ r ≡ foundBefore (now (file .entry)) (now (index .entry)) key b ⌝ }
 {

@@ -24,7 +24,7 @@ fn is_apart(file: &[u8], line: &[u8], last: usize) -> bool
     if joins(line, head) { false } else { true }
 }
 
-// Where the nearest II of the block that is open behind a line in no block starts: an IE leaves it open, any other line ends it.
+// Where the nearest II of the block that is open after a line in no block starts: an IE leaves it open, any other line ends it.
 fn left_open(line: &[u8], last: usize, none: usize) -> usize
     ensures { λ r. ⌜ r ≡ cond (isKind IE (recOf (now (line .entry)))) last none ⌝ }
 {

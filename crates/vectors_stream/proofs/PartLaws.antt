@@ -1,4 +1,4 @@
--- Parts one behind the other, for the programs' loops.
+-- Parts one after the other, for the programs' loops.
 -- Assumes nothing.
 use Prim.Native.Nat.{ℕ, _-_, _<_}
 use native.Mathlib.Omega.{arith}
