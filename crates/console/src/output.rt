@@ -57,9 +57,9 @@ fn on_a_line(numbers: &[u64]) {
 fn finding(area: &[u8], at: usize) {
     if at < area.len() {
         if 6 <= area.len() - at {
-            let line = vectors_stream::number_at(area, at + 1);
-            let field = vectors_stream::wide(area[at + 5]);
-            let rule = vectors_stream::wide(area[at]);
+            let line = house::number_at(area, at + 1);
+            let field = area[at + 5];
+            let rule = area[at];
             on_a_line(&[line as u64, field as u64, rule as u64]);
         }
     }

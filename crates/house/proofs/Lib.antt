@@ -11,4 +11,5 @@ pub mod SearchLaws
 pub mod PadLaws
 pub mod KeyLaws
 pub mod Padding
+pub mod NumberLaws
 pub mod OneAnswer

@@ -8,6 +8,7 @@ use Rattle.house.specs.declared.Order.{Order}
 use Rattle.house.specs.declared.Key.{Key}
 use Rattle.house.specs.Text.{Text, orderOf, below, same, pad, isPadded, digits}
 use Rattle.house.specs.Key.{keyOf}
+use Rattle.house.specs.Numbers.{numberAt}
 
 pub compare-one : (a b : Text) (x y : Order) → x ≡ orderOf a b → y ≡ orderOf a b → x ≡ y
 compare-one a b x y p q = cc
@@ -32,3 +33,6 @@ all-digits-one t x y p q = cc
 
 pub key-of-one : (u d v : Text) (x y : Key) → x .bytes ≡ keyOf u d v → y .bytes ≡ keyOf u d v → x ≡ y
 key-of-one u d v x y p q = ap (λ (b : Text). record { bytes = b }) (p ∙ sym q)
+
+pub number-at-one : (s : Text) (at x y : ℕ) → x ≡ numberAt s at → y ≡ numberAt s at → x ≡ y
+number-at-one s at x y p q = cc

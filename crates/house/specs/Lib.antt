@@ -4,3 +4,4 @@ pub mod Text
 pub mod Members
 pub mod Search
 pub mod Key
+pub mod Numbers

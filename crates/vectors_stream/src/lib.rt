@@ -1,35 +1,13 @@
 // A stream of parts for the programs that run vectors: each part is four bytes of length, lowest first, and as many bytes.
+pub use house::number_at;
 ghost use mathlib.Core.Path.{_≡_};
-ghost use Prim.Native.Nat.{_+_, _≤_};
-ghost use lib.ListN.{length};
-ghost use Rattle.vectors_stream.specs.Parts.{lengthAt, numberAt, PartIs};
+ghost use Rattle.vectors_stream.specs.Parts.{PartIs};
 
 // Where a part's bytes start and end; 0 and 0 where no whole part stands.
 pub struct Part {
     pub start: usize,
     pub end: usize,
     pub whole: bool,
-}
-
-// A byte as a number.
-pub fn wide(b: u8) -> usize
-    ensures { λ r. ⌜ r ≡ b ⌝ }
-    ensures { λ r. ⌜ r ≤ 255 ⌝ }
-{
-    b as usize
-}
-
-// The number that four bytes write, lowest first.
-fn length_at(s: &[u8], at: usize) -> usize
-    requires { ⌜ at + 4 ≤ length (now s) ⌝ }
-    ensures { λ r. ⌜ r ≡ lengthAt (now (s .entry)) at ⌝ }
-    ensures { λ r. ⌜ r ≤ 4294967295 ⌝ }
-{
-    let a = wide(s[at]);
-    let b = wide(s[at + 1]);
-    let c = wide(s[at + 2]);
-    let d = wide(s[at + 3]);
-    a + 256 * b + 65536 * c + 16777216 * d
 }
 
 // The part whose length stands at a position.
@@ -52,7 +30,7 @@ pub fn part_at(s: &[u8], at: usize) -> Part
         };
     }
     let body = at + 4;
-    let size = length_at(s, at);
+    let size = wide_number(number_at(s, at));
     if n - body < size {
         return Part {
             start: 0,
@@ -67,20 +45,14 @@ pub fn part_at(s: &[u8], at: usize) -> Part
     }
 }
 
-// The number that four bytes write, lowest first; 0 where they are not there.
-pub fn number_at(s: &[u8], at: usize) -> u32
-    ensures { λ r. ⌜ r ≡ numberAt (now (s .entry)) at ⌝ }
+// A byte as a number.
+pub fn wide(b: u8) -> usize
+    ensures { λ r. ⌜ r ≡ b ⌝ }
 {
-    let n = s.len();
-    if n < 4 {
-        return 0;
-    }
-    if n - 4 < at {
-        return 0;
-    }
-    length_at(s, at) as u32
+    b as usize
 }
 
+// A number of 32 bits, as one of the size of a length.
 pub fn wide_number(n: u32) -> usize
     ensures { λ r. ⌜ r ≡ n ⌝ }
 {

@@ -15,4 +15,5 @@ part-at-spec =
     (λ c. search for-parts)
     (λ c. search for-parts)
     (λ c. search for-parts)
+    (λ c. search for-parts)
     (λ c. search for-parts))
