@@ -9,6 +9,7 @@ use Rattle.house.specs.Text.{Text, howMany}
 use Rattle.house.specs.Members.{In, Distinct}
 use Rattle.lines.specs.Records.{IN, isKind, recs}
 use Rattle.lines.specs.Shape.{shapeOf}
+use Rattle.lines.specs.Sorted.{placesMost}
 use Rattle.book.specs.declared.Sections.{Sections}
 use Rattle.book.specs.Book.{Sound}
 use Rattle.ledger.specs.Ledger.{Event, ledgerOk, liveIn}
@@ -18,6 +19,10 @@ use Rattle.rules.specs.Firsts.{firstsOf, indexOf}
 use Rattle.answers.specs.declared.steps.Tally.{Tally}
 use Rattle.answers.specs.declared.Answer.the-variants.{Ledger}
 use Rattle.answers.specs.Answers.{Lent, Outcome, fileMost, findings, notImmunized, refused, shaped}
+
+-- room for a book and its hash table
+abbrev pub bookBuffer : ℕ
+bookBuffer = 327680
 
 -- with a well-formed ledger
 unfoldable pub afterLedger : Lent → Outcome
@@ -53,7 +58,7 @@ pub record Settling (file ledger : Text) (live : ℕ) (index : List ℕ) (not-im
   pub settles : Settles file ledger
   pub live-is : live ≡ length (liveIn ledger)
   pub index-is : index ≡ indexOf file
-  pub few : length index ≤ 96154
+  pub few : length index ≤ placesMost
   pub not-immunized-is : not-immunized ≡ howMany (isKind IN) (recs file)
 
 -- judging leaves the index of the blocks at the front of a room, and where there are no findings the file can be settled

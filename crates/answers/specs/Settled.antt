@@ -13,6 +13,14 @@ use Rattle.answers.specs.declared.settle.Counts.{Counts}
 use Rattle.answers.specs.declared.settle.Settled.{Settled}
 use Rattle.answers.specs.declared.settle.Settled.the-variants.{Done, NoRoom}
 
+-- the ledger brought up to date by the blocks at these places that add, and by those at others that delete
+abbrev pub updatedWith : Text → Text → List ℕ → List ℕ → Text
+updatedWith ledger f ps deletes = updated ledger f (partOf f 65 ps) deletes
+
+-- and by those of these places that delete
+abbrev pub updatedBy : Text → Text → List ℕ → Text
+updatedBy ledger f ps = updatedWith ledger f ps (partOf f 68 ps)
+
 -- how many of the blocks at these places add, change and delete
 unfoldable pub countsOf : Text → List ℕ → Counts
 countsOf f ps = record { added = length (partOf f 65 ps); changed = length (partOf f 67 ps); deleted = length (partOf f 68 ps) }
@@ -27,7 +35,7 @@ settledOf f ledger n ps = cond (hasRoom f ledger n ps) (Done (countsOf f ps)) No
 
 -- the ledger after; as it was where there is no room
 unfoldable pub settledLedger : Text → Text → ℕ → List ℕ → Text
-settledLedger f ledger n ps = cond (hasRoom f ledger n ps) (updated ledger f (partOf f 65 ps) (partOf f 68 ps)) ledger
+settledLedger f ledger n ps = cond (hasRoom f ledger n ps) (updatedBy ledger f ps) ledger
 
 -- the index after: the places of those that add at its front; as it was where there is no room
 unfoldable pub settledIndex : Text → Text → ℕ → List ℕ → List ℕ

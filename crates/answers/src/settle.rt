@@ -1,10 +1,12 @@
 // A file without findings is settled by the index of its blocks: they are counted, room is looked for, and the ledger is brought up to date.
+use ledger::SLOT;
+use lines::MOST_PLACES;
 ghost use mathlib.Core.Path.{_≡_};
 ghost use Prim.Native.Nat.{_≤_};
 ghost use lib.ListN.{length};
-ghost use Rattle.ledger.specs.Ledger.{updated};
+ghost use Rattle.lines.specs.Sorted.{placesMost};
 ghost use Rattle.rules.specs.Firsts.{over, partOf};
-ghost use Rattle.answers.specs.Settled.{countsOf, settledOf, settledLedger, settledIndex};
+ghost use Rattle.answers.specs.Settled.{updatedWith, updatedBy, countsOf, settledOf, settledLedger, settledIndex};
 
 // How many blocks add, change and delete.
 pub(crate) struct Counts {
@@ -21,7 +23,7 @@ pub(crate) enum Settled {
 
 // Brings the ledger up to date by the index of the blocks and the places of those deleted. The index keeps the places of those added.
 fn update_by(file: &[u8], ledger: &mut [u8], index: &mut [u32], deletes: &[u32])
-    ensures { λ _. ⌜ now (ledger .exit) ≡ updated (now (ledger .entry)) (now (file .entry)) (partOf (now (file .entry)) 65 (now (index .entry))) (now (deletes .entry)) ⌝ }
+    ensures { λ _. ⌜ now (ledger .exit) ≡ updatedWith (now (ledger .entry)) (now (file .entry)) (now (index .entry)) (now (deletes .entry)) ⌝ }
     ensures { λ _. ⌜ now (index .exit) ≡ over (partOf (now (file .entry)) 65 (now (index .entry))) (now (index .entry)) ⌝ }
 {
     let from = 0;
@@ -29,10 +31,10 @@ fn update_by(file: &[u8], ledger: &mut [u8], index: &mut [u32], deletes: &[u32])
     ledger::update(ledger, file, &index[from..a], deletes);
 }
 
-// The same, in a room for the places of those deleted.
+// The same, in a buffer for the places of those deleted.
 fn update_with_deletes(file: &[u8], ledger: &mut [u8], index: &mut [u32], deletes: &mut [u32])
     requires { ⌜ length (now index) ≤ length (now deletes) ⌝ }
-    ensures { λ _. ⌜ now (ledger .exit) ≡ updated (now (ledger .entry)) (now (file .entry)) (partOf (now (file .entry)) 65 (now (index .entry))) (partOf (now (file .entry)) 68 (now (index .entry))) ⌝ }
+    ensures { λ _. ⌜ now (ledger .exit) ≡ updatedBy (now (ledger .entry)) (now (file .entry)) (now (index .entry)) ⌝ }
     ensures { λ _. ⌜ now (index .exit) ≡ over (partOf (now (file .entry)) 65 (now (index .entry))) (now (index .entry)) ⌝ }
 {
     let from = 0;
@@ -40,21 +42,21 @@ fn update_with_deletes(file: &[u8], ledger: &mut [u8], index: &mut [u32], delete
     update_by(file, ledger, index, &deletes[from..d]);
 }
 
-// The same, in a room of its own.
+// The same, in a buffer of its own.
 fn lend_delete_buffer(file: &[u8], ledger: &mut [u8], index: &mut [u32])
-    requires { ⌜ length (now index) ≤ 96154 ⌝ }
-    ensures { λ _. ⌜ now (ledger .exit) ≡ updated (now (ledger .entry)) (now (file .entry)) (partOf (now (file .entry)) 65 (now (index .entry))) (partOf (now (file .entry)) 68 (now (index .entry))) ⌝ }
+    requires { ⌜ length (now index) ≤ placesMost ⌝ }
+    ensures { λ _. ⌜ now (ledger .exit) ≡ updatedBy (now (ledger .entry)) (now (file .entry)) (now (index .entry)) ⌝ }
     ensures { λ _. ⌜ now (index .exit) ≡ over (partOf (now (file .entry)) 65 (now (index .entry))) (now (index .entry)) ⌝ }
 {
-    let mut deletes = [0u32; 96154];
+    let mut deletes = [0u32; MOST_PLACES];
     update_with_deletes(file, ledger, index, &mut deletes);
 }
 
 // Brings the ledger up to date by the index of the blocks, so many of which add. Where all do, their places are the index as it is.
 fn bring_up_to_date(file: &[u8], ledger: &mut [u8], index: &mut [u32], added: usize)
     requires { ⌜ added ≡ length (partOf (now file) 65 (now index)) ⌝ }
-    requires { ⌜ length (now index) ≤ 96154 ⌝ }
-    ensures { λ _. ⌜ now (ledger .exit) ≡ updated (now (ledger .entry)) (now (file .entry)) (partOf (now (file .entry)) 65 (now (index .entry))) (partOf (now (file .entry)) 68 (now (index .entry))) ⌝ }
+    requires { ⌜ length (now index) ≤ placesMost ⌝ }
+    ensures { λ _. ⌜ now (ledger .exit) ≡ updatedBy (now (ledger .entry)) (now (file .entry)) (now (index .entry)) ⌝ }
     ensures { λ _. ⌜ now (index .exit) ≡ over (partOf (now (file .entry)) 65 (now (index .entry))) (now (index .entry)) ⌝ }
 {
     if added == index.len() {
@@ -67,10 +69,10 @@ fn bring_up_to_date(file: &[u8], ledger: &mut [u8], index: &mut [u32], added: us
 
 // How many blocks add, change and delete, by the index of the blocks.
 fn count_types(file: &[u8], index: &[u32]) -> Counts
-    requires { ⌜ length (now index) ≤ 96154 ⌝ }
+    requires { ⌜ length (now index) ≤ placesMost ⌝ }
     ensures { λ r. ⌜ r ≡ countsOf (now (file .entry)) (now (index .entry)) ⌝ }
-    ensures { λ r. ⌜ r .added ≤ 96154 ⌝ }
-    ensures { λ r. ⌜ r .deleted ≤ 96154 ⌝ }
+    ensures { λ r. ⌜ r .added ≤ placesMost ⌝ }
+    ensures { λ r. ⌜ r .deleted ≤ placesMost ⌝ }
 {
     let added = rules::count_of(file, index, b'A');
     if added == index.len() {
@@ -89,17 +91,17 @@ fn count_types(file: &[u8], index: &[u32]) -> Counts
     }
 }
 
-// How many blocks add, change and delete, if the index has 96154 places at most and the ledger, with so many live events, room for what they add.
+// How many blocks add, change and delete, if the index has no more places than can be sorted and the ledger, with so many live events, room for what they add.
 fn room_for(file: &[u8], ledger: &[u8], live: usize, index: &[u32]) -> Settled
     ensures { λ r. ⌜ r ≡ settledOf (now (file .entry)) (now (ledger .entry)) live (now (index .entry)) ⌝ }
 {
-    if 96154 < index.len() {
+    if MOST_PLACES < index.len() {
         return Settled::NoRoom;
     }
     let n = count_types(file, index);
     let added = n.added;
     let deleted = n.deleted;
-    let room = ledger.len() / 38 + deleted;
+    let room = ledger.len() / SLOT + deleted;
     if room < live {
         return Settled::NoRoom;
     }

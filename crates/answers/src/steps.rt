@@ -3,18 +3,24 @@ use crate::Answer;
 use crate::settle::Settled;
 use book::Sections;
 use dates::Date;
+use lines::MOST_PLACES;
 use lines::Shape;
 use rules::Judged;
+use rules::MOST_BYTES;
 ghost use mathlib.Core.Path.{_≡_};
 ghost use mathlib.Core.List.{[]};
 ghost use Prim.Native.Nat.{_≤_};
 ghost use lib.ListN.{length, take};
 ghost use Rattle.lines.specs.declared.Shape.the-variants.{Right};
+ghost use Rattle.lines.specs.Sorted.{placesMost};
 ghost use Rattle.lines.specs.Shape.{shapeOf};
 ghost use Rattle.book.specs.Book.{Sound};
 ghost use Rattle.rules.specs.Findings.{areaAfter};
-ghost use Rattle.answers.specs.Answers.{lent, left, findings, roomed, judged, Gives};
-ghost use Rattle.answers.specs.Inside.{afterBook, afterLedger, tallyOf, Ready, Settling, Judges};
+ghost use Rattle.answers.specs.Answers.{fileMost, lent, left, findings, roomed, judged, Gives};
+ghost use Rattle.answers.specs.Inside.{bookBuffer, afterBook, afterLedger, tallyOf, Ready, Settling, Judges};
+
+// Room for a book, which has 262,144 bytes at most, and its hash table, which has 65,536.
+const BOOK_BUFFER: usize = 327680;
 
 // How many blocks, findings and IN records there are.
 struct Tally {
@@ -23,25 +29,26 @@ struct Tally {
     not_immunized: usize,
 }
 
-// Judges a file of right shape, by a book with its hash table: the findings go to their area, and the index of the blocks to the front of a room.
+// Judges a file of right shape, by a book with its hash table: the findings go to their area, and the index of the blocks to the front of a buffer.
 fn judge_into(
     today: u32,
     file: &[u8],
-    withHashTable: &[u8],
+    hashed: &[u8],
     q: Sections,
     ledger: &[u8],
     live: usize,
     area: &mut [u8],
-    room: &mut [u32],
+    buffer: &mut [u32],
 ) -> Tally
-    requires { ⌜ Ready (lent today (now file) (take (q .end) (now withHashTable)) (now ledger) (now area)) q live ⌝ }
+    requires { ⌜ Ready (lent today (now file) (take (q .end) (now hashed)) (now ledger) (now area)) q live ⌝ }
     requires { ⌜ shapeOf (now file) ≡ Right ⌝ }
-    requires { ⌜ length (now room) ≡ 96154 ⌝ }
-    ensures { λ r. ⌜ r ≡ tallyOf (lent today (now (file .entry)) (take (q .end) (now (withHashTable .entry))) (now (ledger .entry)) (now (area .entry))) ⌝ }
-    ensures { λ _. ⌜ now (area .exit) ≡ areaAfter (now (area .entry)) (findings (lent today (now (file .entry)) (take (q .end) (now (withHashTable .entry))) (now (ledger .entry)) (now (area .entry)))) ⌝ }
-    ensures { λ r. ⌜ Judges (now (file .entry)) (now (ledger .entry)) live r (now (room .exit)) ⌝ }
+    requires { ⌜ length (now buffer) ≡ placesMost ⌝ }
+    ensures { λ r. ⌜ r ≡ tallyOf (lent today (now (file .entry)) (take (q .end) (now (hashed .entry))) (now (ledger .entry)) (now (area .entry))) ⌝ }
+    ensures { λ _. ⌜ now (area .exit) ≡ areaAfter (now (area .entry))
+        (findings (lent today (now (file .entry)) (take (q .end) (now (hashed .entry))) (now (ledger .entry)) (now (area .entry)))) ⌝ }
+    ensures { λ r. ⌜ Judges (now (file .entry)) (now (ledger .entry)) live r (now (buffer .exit)) ⌝ }
 {
-    let j = rules::judge(today, file, withHashTable, q, ledger, live, room, area);
+    let j = rules::judge(today, file, hashed, q, ledger, live, buffer, area);
     match j {
         Judged::Done {
             blocks,
@@ -60,20 +67,20 @@ fn judge_into(
     }
 }
 
-// From FULL on, of a file without findings, by the index of its blocks at the front of a room. What the room holds is lost.
+// From FULL on, of a file without findings, by the index of its blocks at the front of a buffer. What the buffer holds is lost.
 fn settle_blocks(
     file: &[u8],
     ledger: &mut [u8],
     live: usize,
-    room: &mut [u32],
+    buffer: &mut [u32],
     blocks: usize,
     not_immunized: usize,
 ) -> Answer
-    requires { ⌜ Settling (now file) (now ledger) live (take blocks (now room)) not_immunized ⌝ }
-    requires { ⌜ blocks ≤ length (now room) ⌝ }
+    requires { ⌜ Settling (now file) (now ledger) live (take blocks (now buffer)) not_immunized ⌝ }
+    requires { ⌜ blocks ≤ length (now buffer) ⌝ }
     ensures { λ r. ⌜ left r (now (ledger .exit)) [] ≡ roomed (lent 0 (now (file .entry)) [] (now (ledger .entry)) []) ⌝ }
 {
-    let s = crate::settle::settle(file, ledger, live, &mut room[..blocks]);
+    let s = crate::settle::settle(file, ledger, live, &mut buffer[..blocks]);
     match s {
         Settled::Done(n) => Answer::Accepted {
             added: n.added,
@@ -85,50 +92,52 @@ fn settle_blocks(
     }
 }
 
-// From FINDINGS on, by a book with its hash table, in a room for the index.
+// From FINDINGS on, by a book with its hash table, in a buffer for the index.
 fn judge_and_settle(
     today: u32,
     file: &[u8],
-    withHashTable: &[u8],
+    hashed: &[u8],
     q: Sections,
     ledger: &mut [u8],
     live: usize,
     area: &mut [u8],
-    room: &mut [u32],
+    buffer: &mut [u32],
 ) -> Answer
-    requires { ⌜ Ready (lent today (now file) (take (q .end) (now withHashTable)) (now ledger) (now area)) q live ⌝ }
+    requires { ⌜ Ready (lent today (now file) (take (q .end) (now hashed)) (now ledger) (now area)) q live ⌝ }
     requires { ⌜ shapeOf (now file) ≡ Right ⌝ }
-    requires { ⌜ length (now room) ≡ 96154 ⌝ }
-    ensures { λ r. ⌜ left r (now (ledger .exit)) (now (area .exit)) ≡ judged (lent today (now (file .entry)) (take (q .end) (now (withHashTable .entry))) (now (ledger .entry)) (now (area .entry))) ⌝ }
+    requires { ⌜ length (now buffer) ≡ placesMost ⌝ }
+    ensures { λ r. ⌜ left r (now (ledger .exit)) (now (area .exit))
+        ≡ judged (lent today (now (file .entry)) (take (q .end) (now (hashed .entry))) (now (ledger .entry)) (now (area .entry))) ⌝ }
 {
-    let n = judge_into(today, file, withHashTable, q, ledger, live, area, room);
+    let n = judge_into(today, file, hashed, q, ledger, live, area, buffer);
     let findings = n.findings;
     if findings == 0 {
-        settle_blocks(file, ledger, live, room, n.blocks, n.not_immunized)
+        settle_blocks(file, ledger, live, buffer, n.blocks, n.not_immunized)
     } else {
         Answer::Findings(findings)
     }
 }
 
-// From FINDINGS on, by a book with its hash table. A file of right shape has 96154 blocks at most.
+// From FINDINGS on, by a book with its hash table. A file of right shape has no more blocks than can be sorted.
 fn lend_index_buffer(
     today: u32,
     file: &[u8],
-    withHashTable: &[u8],
+    hashed: &[u8],
     q: Sections,
     ledger: &mut [u8],
     live: usize,
     area: &mut [u8],
 ) -> Answer
-    requires { ⌜ Ready (lent today (now file) (take (q .end) (now withHashTable)) (now ledger) (now area)) q live ⌝ }
+    requires { ⌜ Ready (lent today (now file) (take (q .end) (now hashed)) (now ledger) (now area)) q live ⌝ }
     requires { ⌜ shapeOf (now file) ≡ Right ⌝ }
-    ensures { λ r. ⌜ left r (now (ledger .exit)) (now (area .exit)) ≡ judged (lent today (now (file .entry)) (take (q .end) (now (withHashTable .entry))) (now (ledger .entry)) (now (area .entry))) ⌝ }
+    ensures { λ r. ⌜ left r (now (ledger .exit)) (now (area .exit))
+        ≡ judged (lent today (now (file .entry)) (take (q .end) (now (hashed .entry))) (now (ledger .entry)) (now (area .entry))) ⌝ }
 {
-    let mut room = [0u32; 96154];
-    judge_and_settle(today, file, withHashTable, q, ledger, live, area, &mut room)
+    let mut buffer = [0u32; MOST_PLACES];
+    judge_and_settle(today, file, hashed, q, ledger, live, area, &mut buffer)
 }
 
-// From FINDINGS on, in a room for the book with its hash table.
+// From FINDINGS on, in a buffer for the book with its hash table.
 fn judge_by_hash(
     today: u32,
     file: &[u8],
@@ -137,18 +146,19 @@ fn judge_by_hash(
     ledger: &mut [u8],
     live: usize,
     area: &mut [u8],
-    room: &mut [u8],
+    buffer: &mut [u8],
 ) -> Answer
     requires { ⌜ Ready (lent today (now file) (now book) (now ledger) (now area)) q live ⌝ }
     requires { ⌜ shapeOf (now file) ≡ Right ⌝ }
-    requires { ⌜ length (now room) ≡ 327680 ⌝ }
-    ensures { λ r. ⌜ left r (now (ledger .exit)) (now (area .exit)) ≡ judged (lent today (now (file .entry)) (now (book .entry)) (now (ledger .entry)) (now (area .entry))) ⌝ }
+    requires { ⌜ length (now buffer) ≡ bookBuffer ⌝ }
+    ensures { λ r. ⌜ left r (now (ledger .exit)) (now (area .exit))
+        ≡ judged (lent today (now (file .entry)) (now (book .entry)) (now (ledger .entry)) (now (area .entry))) ⌝ }
 {
-    book::hash_book(book, q, room);
-    lend_index_buffer(today, file, room, q, ledger, live, area)
+    book::hash_book(book, q, buffer);
+    lend_index_buffer(today, file, buffer, q, ledger, live, area)
 }
 
-// From FINDINGS on. A book has 262144 bytes at most, and its hash table has 65536.
+// From FINDINGS on.
 fn lend_book_buffer(
     today: u32,
     file: &[u8],
@@ -160,10 +170,11 @@ fn lend_book_buffer(
 ) -> Answer
     requires { ⌜ Ready (lent today (now file) (now book) (now ledger) (now area)) q live ⌝ }
     requires { ⌜ shapeOf (now file) ≡ Right ⌝ }
-    ensures { λ r. ⌜ left r (now (ledger .exit)) (now (area .exit)) ≡ judged (lent today (now (file .entry)) (now (book .entry)) (now (ledger .entry)) (now (area .entry))) ⌝ }
+    ensures { λ r. ⌜ left r (now (ledger .exit)) (now (area .exit))
+        ≡ judged (lent today (now (file .entry)) (now (book .entry)) (now (ledger .entry)) (now (area .entry))) ⌝ }
 {
-    let mut room = [0u8; 327680];
-    judge_by_hash(today, file, book, q, ledger, live, area, &mut room)
+    let mut buffer = [0u8; BOOK_BUFFER];
+    judge_by_hash(today, file, book, q, ledger, live, area, &mut buffer)
 }
 
 // From SHAPE on.
@@ -177,7 +188,8 @@ fn from_shape(
     area: &mut [u8],
 ) -> Answer
     requires { ⌜ Ready (lent today (now file) (now book) (now ledger) (now area)) q live ⌝ }
-    ensures { λ r. ⌜ left r (now (ledger .exit)) (now (area .exit)) ≡ afterLedger (lent today (now (file .entry)) (now (book .entry)) (now (ledger .entry)) (now (area .entry))) ⌝ }
+    ensures { λ r. ⌜ left r (now (ledger .exit)) (now (area .exit))
+        ≡ afterLedger (lent today (now (file .entry)) (now (book .entry)) (now (ledger .entry)) (now (area .entry))) ⌝ }
 {
     let s = lines::shape_of(file);
     match s {
@@ -196,8 +208,9 @@ fn from_ledger(
     area: &mut [u8],
 ) -> Answer
     requires { ⌜ Sound (now book) q ⌝ }
-    requires { ⌜ length (now file) ≤ 5000000 ⌝ }
-    ensures { λ r. ⌜ left r (now (ledger .exit)) (now (area .exit)) ≡ afterBook (lent today (now (file .entry)) (now (book .entry)) (now (ledger .entry)) (now (area .entry))) ⌝ }
+    requires { ⌜ length (now file) ≤ fileMost ⌝ }
+    ensures { λ r. ⌜ left r (now (ledger .exit)) (now (area .exit))
+        ≡ afterBook (lent today (now (file .entry)) (now (book .entry)) (now (ledger .entry)) (now (area .entry))) ⌝ }
 {
     let v = ledger::valid(ledger);
     match v {
@@ -208,10 +221,11 @@ fn from_ledger(
 
 // The check. The ledger alters only at ACCEPTED, the findings area only at FINDINGS.
 pub fn check(today: u32, file: &[u8], book: &[u8], ledger: &mut [u8], area: &mut [u8]) -> Answer
-    ensures { λ r. ⌜ Gives (lent today (now (file .entry)) (now (book .entry)) (now (ledger .entry)) (now (area .entry))) r (now (ledger .exit)) (now (area .exit)) ⌝ }
+    ensures { λ r. ⌜ Gives (lent today (now (file .entry)) (now (book .entry)) (now (ledger .entry)) (now (area .entry)))
+        r (now (ledger .exit)) (now (area .exit)) ⌝ }
 {
     if Date::is_day(today) {
-        if 5000000 < file.len() {
+        if MOST_BYTES < file.len() {
             return Answer::Long;
         }
         let v = book::valid(book);

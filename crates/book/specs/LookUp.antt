@@ -115,10 +115,14 @@ unfoldable pub noteRows : Text → ℕ → ℕ → ℕ → Text → Text
 noteRows s k from zero t = t
 noteRows s k from (suc n) t = noteRow s k from n (noteRows s k from n t)
 
+-- all entries of kind k
+abbrev pub noteKind : Text → Sections → ℕ → Text → Text
+noteKind s q k t = noteRows s k (sectionStart q k) (countIn s q k) t
+
 -- the entries of the first kinds
 unfoldable pub noteKinds : Text → Sections → ℕ → Text → Text
 noteKinds s q zero t = t
-noteKinds s q (suc k) t = noteRows s (suc k) (sectionStart q (suc k)) (countIn s q (suc k)) (noteKinds s q k t)
+noteKinds s q (suc k) t = noteKind s q (suc k) (noteKinds s q k t)
 
 -- a book at the front of a room, and its entries noted after it; the room as it is where it is too small for the book
 unfoldable pub withHashTable : Text → Sections → Text → Text

@@ -4,6 +4,7 @@ use crate::Position;
 use crate::Read;
 use crate::Sections;
 use crate::Standing;
+use crate::kinds::VACCINE;
 use crate::search::find;
 use crate::widths::code_width;
 use crate::widths::start_width;
@@ -20,7 +21,7 @@ ghost use Rattle.book.specs.Inside.{startHolds, endHolds, datesHold, bod
 fn start_holds(k: u8, t: &[u8], day: u32) -> bool
     ensures { λ r. ⌜ r ≡ startHolds day k (now (t .entry)) ⌝ }
 {
-    if k == 1 {
+    if k == VACCINE {
         let d = Date::of(t);
         match d {
             Dated::Day(x) => x.number <= day,

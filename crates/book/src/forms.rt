@@ -1,4 +1,7 @@
 // Forms of an entry: its code, or both codes of a pair, its start and its end.
+use crate::kinds::VACCINE;
+use crate::kinds::WITH_ANTIGEN;
+use crate::kinds::WITH_REASON;
 use crate::widths::code_width;
 use crate::widths::first_width;
 use crate::widths::start_width;
@@ -25,8 +28,8 @@ fn second_ok(k: u8, t: &[u8]) -> bool
     ensures { λ r. ⌜ r ≡ secondForm k (now (t .entry)) ⌝ }
 {
     match k {
-        7 => house::all_digits(t),
-        8 => house::is_padded(t),
+        WITH_REASON => house::all_digits(t),
+        WITH_ANTIGEN => house::is_padded(t),
         _ => true,
     }
 }
@@ -48,7 +51,7 @@ pub(crate) fn code_ok(k: u8, code: &[u8]) -> bool
 fn start_ok(k: u8, t: &[u8]) -> bool
     ensures { λ r. ⌜ r ≡ startForm k (now (t .entry)) ⌝ }
 {
-    if k == 1 {
+    if k == VACCINE {
         let d = Date::of(t);
         match d {
             Dated::Day(_) => true,

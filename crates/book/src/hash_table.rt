@@ -9,7 +9,7 @@ ghost use mathlib.Core.List.{_++_};
 ghost use Prim.Native.Nat.{_<_, _≤_, _+_, _-_, _*_};
 ghost use lib.ListN.{length, drop, set, getD};
 ghost use Rattle.book.specs.Book.{firstWidth, secondWidth, bodyWidth, codeText};
-ghost use Rattle.book.specs.LookUp.{sectionStart, countIn, mix, guess, noteRow, noteRows, noteKinds, withHashTable};
+ghost use Rattle.book.specs.LookUp.{mix, guess, noteRow, noteKind, noteKinds, withHashTable};
 
 // A byte, as a number to reckon with.
 fn value(b: u8) -> usize
@@ -94,7 +94,7 @@ fn hash_entry(book: &[u8], k: u8, from: usize, n: usize, i: usize, w: Widths, ta
 // Notes the entries of kind k.
 fn hash_entries(book: &[u8], sections: Sections, k: u8, table: &mut [u8])
     requires { ⌜ k ≤ 8 ⌝ }
-    ensures { λ _. ⌜ now (table .exit) ≡ noteRows (now (book .entry)) k (sectionStart sections k) (countIn (now (book .entry)) sections k) (now (table .entry)) ⌝ }
+    ensures { λ _. ⌜ now (table .exit) ≡ noteKind (now (book .entry)) sections k (now (table .entry)) ⌝ }
 {
     let from = sections.start(k);
     let w = widths_of(k);

@@ -2,6 +2,7 @@
 mod days;
 mod forms;
 mod hash_table;
+mod kinds;
 mod reader;
 mod search;
 mod well_formed;
@@ -10,6 +11,14 @@ mod widths;
 pub use days::in_force;
 pub use days::look_up;
 pub use hash_table::hash_book;
+pub use kinds::ANTIGEN;
+pub use kinds::DOSAGE_TYPE;
+pub use kinds::MANUFACTURER;
+pub use kinds::REASON;
+pub use kinds::REASON_NOT;
+pub use kinds::VACCINE;
+pub use kinds::WITH_ANTIGEN;
+pub use kinds::WITH_REASON;
 pub use search::find;
 pub use well_formed::valid;
 

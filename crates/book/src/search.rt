@@ -3,6 +3,13 @@ use crate::Found;
 use crate::Position;
 use crate::Sections;
 use crate::hash_table::hashed;
+use crate::kinds::ANTIGEN;
+use crate::kinds::DOSAGE_TYPE;
+use crate::kinds::MANUFACTURER;
+use crate::kinds::REASON;
+use crate::kinds::REASON_NOT;
+use crate::kinds::WITH_ANTIGEN;
+use crate::kinds::WITH_REASON;
 use crate::widths::body_width;
 use crate::widths::first_width;
 use crate::widths::second_width;
@@ -21,13 +28,13 @@ impl Sections {
         ensures { λ r. ⌜ r ≡ sectionStart self k ⌝ }
     {
         match k {
-            2 => self.antigens,
-            3 => self.reasons,
-            4 => self.manufacturers,
-            5 => self.dosage_types,
-            6 => self.reasons_not,
-            7 => self.with_reason,
-            8 => self.with_antigen,
+            ANTIGEN => self.antigens,
+            REASON => self.reasons,
+            MANUFACTURER => self.manufacturers,
+            DOSAGE_TYPE => self.dosage_types,
+            REASON_NOT => self.reasons_not,
+            WITH_REASON => self.with_reason,
+            WITH_ANTIGEN => self.with_antigen,
             9 => self.end,
             _ => 0,
         }

@@ -1,4 +1,12 @@
 // Widths by kind: "a body whose length the kind fixes".
+use crate::kinds::ANTIGEN;
+use crate::kinds::DOSAGE_TYPE;
+use crate::kinds::MANUFACTURER;
+use crate::kinds::REASON;
+use crate::kinds::REASON_NOT;
+use crate::kinds::VACCINE;
+use crate::kinds::WITH_ANTIGEN;
+use crate::kinds::WITH_REASON;
 use dates::Date;
 ghost use mathlib.Core.Path.{_≡_};
 ghost use Prim.Native.Nat.{_≤_};
@@ -10,14 +18,14 @@ pub(crate) fn first_width(k: u8) -> usize
     ensures { λ r. ⌜ r ≤ 20 ⌝ }
 {
     match k {
-        1 => 20,
-        2 => 20,
-        3 => 2,
-        4 => 3,
-        5 => 4,
-        6 => 3,
-        7 => 20,
-        8 => 20,
+        VACCINE => 20,
+        ANTIGEN => 20,
+        REASON => 2,
+        MANUFACTURER => 3,
+        DOSAGE_TYPE => 4,
+        REASON_NOT => 3,
+        WITH_REASON => 20,
+        WITH_ANTIGEN => 20,
         _ => 0,
     }
 }
@@ -28,8 +36,8 @@ pub(crate) fn second_width(k: u8) -> usize
     ensures { λ r. ⌜ r ≤ 20 ⌝ }
 {
     match k {
-        7 => 2,
-        8 => 20,
+        WITH_REASON => 2,
+        WITH_ANTIGEN => 20,
         _ => 0,
     }
 }
@@ -39,7 +47,7 @@ pub(crate) fn start_width(k: u8) -> usize
     ensures { λ r. ⌜ r ≡ startWidth k ⌝ }
     ensures { λ r. ⌜ r ≤ 8 ⌝ }
 {
-    if k == 1 { Date::WIDTH } else { 0 }
+    if k == VACCINE { Date::WIDTH } else { 0 }
 }
 
 // The bytes of an entry's code, both codes of a pair.

@@ -39,7 +39,8 @@ fn over_long(book: &[u8]) -> Answer
 
 // The answer to what was read.
 pub fn answer(input: &[u8], book: &[u8], ledger: &mut [u8], area: &mut [u8]) -> Answer
-    ensures { λ r. ⌜ left r (now (ledger .exit)) (now (area .exit)) ≡ answerOf (now (input .entry)) (now (book .entry)) (now (ledger .entry)) (now (area .entry)) ⌝ }
+    ensures { λ r. ⌜ left r (now (ledger .exit)) (now (area .exit))
+        ≡ answerOf (now (input .entry)) (now (book .entry)) (now (ledger .entry)) (now (area .entry)) ⌝ }
 {
     let today = today_in(input);
     if today == 0 {

@@ -3,16 +3,17 @@
 use Prim.Native.Nat.{ℕ, _+_, _-_, _/_, _≤_}
 use mathlib.Core.Path.{_≡_}
 use mathlib.Core.Bool.{Bool, true, not, cond, _&&_}
-use mathlib.Core.List.{List, [], _∷_, map}
-use lib.ListN.{length, getD, replicate}
+use mathlib.Core.List.{List, [], _∷_, _++_, map}
+use lib.ListN.{length, getD, take, drop, replicate}
 use lib.Dec.{leb, ltb}
 use Rattle.house.specs.declared.Order.{Order}
 use Rattle.house.specs.declared.Order.the-variants.{More}
 use Rattle.house.specs.Text.{Text, all, those, howMany, adjacent, orderOf, below}
 use Rattle.lines_places.specs.Events.{eventAt, eventsAt, ascends}
+use Rattle.lines_places.specs.Sorted.{place}
 use Rattle.ledger.specs.declared.Validity.{Validity}
 use Rattle.ledger.specs.declared.Validity.the-variants.{Sound, Malformed}
-use Rattle.ledger.specs.Ledger.{slotBytes, slots, isLiveSlot, slotForm, slotFollows, liveIn, foundIn, liveSlot, eventsAfter}
+use Rattle.ledger.specs.Ledger.{slotBytes, slots, isLiveSlot, slotForm, slotFollows, liveIn, foundIn, liveSlot, eventsAfter, ledgerWith}
 
 -- the first of the slots after slot t, if there is one, may follow it
 unfoldable pub followed : Text → List Text → Bool
@@ -62,3 +63,11 @@ pub record Fit (s f : Text) (adds deletes : List ℕ) : Type 0 where
   pub added : ascends (eventsAt f adds) ≡ true
   pub deleted : ascends (eventsAt f deletes) ≡ true
   pub room : length (eventsAfter (liveIn s) (eventsAt f adds) (eventsAt f deletes)) ≤ length s / slotBytes
+
+-- the slots after those of the events of the lines at these places are merged with the first n; the slots from there on stay
+abbrev pub mergedIn : List Text → ℕ → Text → List ℕ → List Text
+mergedIn ss n f adds = place whole (slotsFor f adds) (take n ss) ++ drop (n + length adds) ss
+
+-- the ledger after the events of the lines at these places are deleted and added
+abbrev pub appliedTo : Text → Text → List ℕ → List ℕ → Text
+appliedTo s f adds deletes = ledgerWith (length s) (eventsAfter (liveIn s) (eventsAt f adds) (eventsAt f deletes))

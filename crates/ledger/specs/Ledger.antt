@@ -18,6 +18,9 @@ use Rattle.ledger.specs.declared.Validity.the-variants.{Sound, Malformed
 abbrev pub Event : Type 0
 Event = Text
 
+abbrev pub eventBytes : ℕ
+eventBytes = 37
+
 abbrev pub slotBytes : ℕ
 slotBytes = 38
 

@@ -1,4 +1,6 @@
 // The form of a ledger: what a slot holds, how slots follow each other, and how many are live.
+use crate::MOST_SLOTS;
+use crate::SLOT;
 use crate::Validity;
 use crate::slots::is_live_slot;
 use crate::slots::slot;
@@ -10,12 +12,12 @@ ghost use mathlib.Core.List.{[]};
 ghost use Prim.Native.Nat.{_+_, _/_, _%_, _<_, _≤_};
 ghost use lib.ListN.{length, getD, drop};
 ghost use Rattle.house.specs.Text.{adjacent, those};
-ghost use Rattle.ledger.specs.Ledger.{slots, eventForm, isLiveSlot, isFreeSlot, slotForm, slotFollows, validOf};
+ghost use Rattle.ledger.specs.Ledger.{slotBytes, eventBytes, slots, eventForm, isLiveSlot, isFreeSlot, slotForm, slotFollows, validOf};
 ghost use Rattle.ledger.specs.Inside.{soundAt, soundFrom};
 
 // Whether 37 bytes are an event: a ULI of nine digits, a date, a padded vaccine code.
 fn is_event(event: &[u8]) -> bool
-    requires { ⌜ length (now event) ≡ 37 ⌝ }
+    requires { ⌜ length (now event) ≡ eventBytes ⌝ }
     ensures { λ r. ⌜ r ≡ eventForm (now (event .entry)) ⌝ }
 {
     if house::all_digits(&event[0..9]) {
@@ -45,7 +47,7 @@ fn is_free_slot(slot: &[u8]) -> bool
 
 // Whether a slot has the form of its kind.
 fn has_form(slot: &[u8]) -> bool
-    requires { ⌜ length (now slot) ≡ 38 ⌝ }
+    requires { ⌜ length (now slot) ≡ slotBytes ⌝ }
     ensures { λ r. ⌜ r ≡ slotForm (now (slot .entry)) ⌝ }
 {
     if is_live_slot(slot) {
@@ -76,7 +78,7 @@ fn may_follow(s: &[u8], t: &[u8]) -> bool
 pub(crate) fn in_order(ledger: &[u8]) -> bool
     ensures { λ r. ⌜ r ≡ adjacent slotFollows (slots (now (ledger .entry))) ⌝ }
 {
-    let n = ledger.len() / 38;
+    let n = ledger.len() / SLOT;
     let mut i = 0;
     while i + 1 < n {
         if may_follow(slot(ledger, i), slot(ledger, i + 1)) {
@@ -91,9 +93,9 @@ pub(crate) fn in_order(ledger: &[u8]) -> bool
 // How many slots are live.
 pub(crate) fn count_live(ledger: &[u8]) -> usize
     ensures { λ r. ⌜ r ≡ length (those isLiveSlot (slots (now (ledger .entry)))) ⌝ }
-    ensures { λ r. ⌜ r ≤ length (now (ledger .entry)) / 38 ⌝ }
+    ensures { λ r. ⌜ r ≤ length (now (ledger .entry)) / slotBytes ⌝ }
 {
-    let n = ledger.len() / 38;
+    let n = ledger.len() / SLOT;
     let mut live = 0;
     let mut i = 0;
     while i < n {
@@ -109,12 +111,12 @@ pub(crate) fn count_live(ledger: &[u8]) -> usize
 
 // Whether slot i has the form of its kind, and the next, if there is one, may follow it.
 fn is_sound_at(ledger: &[u8], i: usize) -> bool
-    requires { ⌜ i < length (now ledger) / 38 ⌝ }
+    requires { ⌜ i < length (now ledger) / slotBytes ⌝ }
     ensures { λ r. ⌜ r ≡ soundAt (getD (slots (now (ledger .entry))) i []) (drop (i + 1) (slots (now (ledger .entry)))) ⌝ }
 {
     let t = slot(ledger, i);
     if has_form(t) {
-        if i + 1 < ledger.len() / 38 {
+        if i + 1 < ledger.len() / SLOT {
             may_follow(t, slot(ledger, i + 1))
         } else {
             true
@@ -128,7 +130,7 @@ fn is_sound_at(ledger: &[u8], i: usize) -> bool
 fn sound_slots(ledger: &[u8]) -> Validity
     ensures { λ r. ⌜ r ≡ soundFrom 0 (slots (now (ledger .entry))) ⌝ }
 {
-    let n = ledger.len() / 38;
+    let n = ledger.len() / SLOT;
     let mut live = 0;
     let mut i = 0;
     while i < n {
@@ -150,10 +152,10 @@ fn sound_slots(ledger: &[u8]) -> Validity
 pub fn valid(ledger: &[u8]) -> Validity
     ensures { λ r. ⌜ r ≡ validOf (now (ledger .entry)) ⌝ }
 {
-    if ledger.len() % 38 != 0 {
+    if ledger.len() % SLOT != 0 {
         return Validity::Malformed;
     }
-    if 100000 < ledger.len() / 38 {
+    if MOST_SLOTS < ledger.len() / SLOT {
         return Validity::Malformed;
     }
     sound_slots(ledger)

@@ -1,21 +1,22 @@
 // The slots of a ledger: reading one, writing one, and the slot of an event.
+use crate::SLOT;
+use house::Key;
 ghost use mathlib.Core.Path.{_≡_};
 ghost use mathlib.Core.List.{[], _∷_};
 ghost use Prim.Native.Nat.{_+_, _*_, _-_, _/_, _<_};
 ghost use lib.ListN.{length, getD, set};
 ghost use Rattle.lines_places.specs.Events.{eventAt};
-ghost use Rattle.lines_places.specs.Sorted.{place};
-ghost use Rattle.ledger.specs.Ledger.{slots, isLiveSlot, liveSlot};
+ghost use Rattle.ledger.specs.Ledger.{slotBytes, slots, isLiveSlot, liveSlot};
 ghost use Rattle.ledger.specs.Inside.{slotBefore};
 
 // Slot i, as a part of the ledger.
 pub(crate) fn slot(ledger: &[u8], i: usize) -> &[u8]
-    requires { ⌜ i < length (now ledger) / 38 ⌝ }
+    requires { ⌜ i < length (now ledger) / slotBytes ⌝ }
     ensures { λ r. ⌜ now r ≡ getD (slots (now (ledger .entry))) i [] ⌝ }
-    ensures { λ r. ⌜ length (now r) ≡ 38 ⌝ }
+    ensures { λ r. ⌜ length (now r) ≡ slotBytes ⌝ }
 {
-    let at = i * 38;
-    let end = at + 38;
+    let at = i * SLOT;
+    let end = at + SLOT;
     &ledger[at..end]
 }
 
@@ -28,14 +29,14 @@ pub(crate) fn is_live_slot(slot: &[u8]) -> bool
 }
 
 // Slot i, copied.
-pub(crate) fn read_slot(ledger: &[u8], i: usize) -> [u8; 38]
-    requires { ⌜ i < length (now ledger) / 38 ⌝ }
+pub(crate) fn read_slot(ledger: &[u8], i: usize) -> [u8; SLOT]
+    requires { ⌜ i < length (now ledger) / slotBytes ⌝ }
     ensures { λ r. ⌜ r ≡ getD (slots (now (ledger .entry))) i [] ⌝ }
 {
-    let at = i * 38;
-    let mut s = [0u8; 38];
+    let at = i * SLOT;
+    let mut s = [0u8; SLOT];
     let mut j = 0;
-    while j < 38 {
+    while j < SLOT {
         s[j] = ledger[at + j];
         j += 1;
     }
@@ -43,13 +44,13 @@ pub(crate) fn read_slot(ledger: &[u8], i: usize) -> [u8; 38]
 }
 
 // Puts a slot at i.
-pub(crate) fn write_slot(ledger: &mut [u8], i: usize, s: [u8; 38])
-    requires { ⌜ i < length (now ledger) / 38 ⌝ }
+pub(crate) fn write_slot(ledger: &mut [u8], i: usize, s: [u8; SLOT])
+    requires { ⌜ i < length (now ledger) / slotBytes ⌝ }
     ensures { λ _. ⌜ slots (now (ledger .exit)) ≡ set (slots (now (ledger .entry))) i s ⌝ }
 {
-    let at = i * 38;
+    let at = i * SLOT;
     let mut j = 0;
-    while j < 38 {
+    while j < SLOT {
         ledger[at + j] = s[j];
         j += 1;
     }
@@ -63,12 +64,12 @@ pub(crate) fn wide(p: u32) -> usize
 }
 
 // The slot of a live event.
-fn slot_of(key: [u8; 37]) -> [u8; 38]
+fn slot_of(key: [u8; Key::WIDTH]) -> [u8; SLOT]
     ensures { λ r. ⌜ r ≡ 1 ∷ key ⌝ }
 {
-    let mut s = [1u8; 38];
+    let mut s = [1u8; SLOT];
     let mut j = 0;
-    while j < 37 {
+    while j < Key::WIDTH {
         s[1 + j] = key[j];
         j += 1;
     }
@@ -76,7 +77,7 @@ fn slot_of(key: [u8; 37]) -> [u8; 38]
 }
 
 // The slot of the event of the line at place j of a list.
-fn listed_slot(file: &[u8], places: &[u32], j: usize) -> [u8; 38]
+fn listed_slot(file: &[u8], places: &[u32], j: usize) -> [u8; SLOT]
     requires { ⌜ j < length (now places) ⌝ }
     ensures { λ r. ⌜ r ≡ liveSlot (eventAt (now (file .entry)) (getD (now (places .entry)) j 0)) ⌝ }
 {
@@ -84,7 +85,7 @@ fn listed_slot(file: &[u8], places: &[u32], j: usize) -> [u8; 38]
 }
 
 // The slot of the event of the line at the place before place j of a list; zeros where there is none.
-pub(crate) fn slot_before(file: &[u8], places: &[u32], j: usize) -> [u8; 38]
+pub(crate) fn slot_before(file: &[u8], places: &[u32], j: usize) -> [u8; SLOT]
     ensures { λ r. ⌜ r ≡ slotBefore (now (file .entry)) (now (places .entry)) j ⌝ }
 {
     if 0 < j {
@@ -92,5 +93,5 @@ pub(crate) fn slot_before(file: &[u8], places: &[u32], j: usize) -> [u8; 38]
             return listed_slot(file, places, j - 1);
         }
     }
-    [0u8; 38]
+    [0u8; SLOT]
 }

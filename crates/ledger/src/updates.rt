@@ -1,4 +1,5 @@
 // What an accepted file does to a ledger: what it deletes goes, what it adds comes in, and the slots after are free.
+use crate::SLOT;
 use crate::find::is_live;
 use crate::form::count_live;
 use crate::form::in_order;
@@ -12,16 +13,15 @@ ghost use mathlib.Core.Path.{_≡_};
 ghost use mathlib.Core.Bool.{true, false};
 ghost use mathlib.Core.List.{_++_};
 ghost use Prim.Native.Nat.{_+_, _*_, _-_, _/_, _%_, _<_, _≤_};
-ghost use lib.ListN.{length, getD, take, drop, set, replicate};
-ghost use Rattle.house.specs.Text.{those, howMany};
+ghost use lib.ListN.{length, getD, take, set, replicate};
+ghost use Rattle.house.specs.Text.{howMany};
 ghost use Rattle.lines_places.specs.Events.{eventAt, eventsAt};
-ghost use Rattle.lines_places.specs.Sorted.{place};
 ghost use Rattle.lines_places.specs.Inside.{Asc, Up};
-ghost use Rattle.ledger.specs.Ledger.{slots, foundIn, liveIn, less, eventsAfter, ledgerWith, isFit, updated};
-ghost use Rattle.ledger.specs.Inside.{whole, slotsFor, orderIf, goesLast, lastOf, hasRoom, Fit};
+ghost use Rattle.ledger.specs.Ledger.{slotBytes, slots, foundIn, less, isFit, updated};
+ghost use Rattle.ledger.specs.Inside.{whole, slotsFor, orderIf, goesLast, lastOf, hasRoom, Fit, mergedIn, appliedTo};
 
 // How slot t stands to slot s; above it where there is no slot t.
-fn stands_to(there: bool, t: [u8; 38], s: [u8; 38]) -> Order
+fn stands_to(there: bool, t: [u8; SLOT], s: [u8; SLOT]) -> Order
     ensures { λ r. ⌜ r ≡ orderIf there t s ⌝ }
 {
     if there {
@@ -33,7 +33,7 @@ fn stands_to(there: bool, t: [u8; 38], s: [u8; 38]) -> Order
 
 // Moves those of the first n slots that are not deleted to the front, and gives how many they are.
 fn compact(ledger: &mut [u8], n: usize, file: &[u8], deletes: &[u32]) -> usize
-    requires { ⌜ n ≤ length (now ledger) / 38 ⌝ }
+    requires { ⌜ n ≤ length (now ledger) / slotBytes ⌝ }
     requires { ⌜ Asc whole (take n (slots (now ledger))) ⌝ }
     requires { ⌜ Asc whole (slotsFor (now file) (now deletes)) ⌝ }
     ensures { λ r. ⌜ r ≡ length (less (slotsFor (now (file .entry)) (now (deletes .entry))) (take n (slots (now (ledger .entry))))) ⌝ }
@@ -66,7 +66,7 @@ fn compact(ledger: &mut [u8], n: usize, file: &[u8], deletes: &[u32]) -> usize
 
 // The same; where nothing is deleted, as in most files, all stay where they are.
 fn keep_live(ledger: &mut [u8], n: usize, file: &[u8], deletes: &[u32]) -> usize
-    requires { ⌜ n ≤ length (now ledger) / 38 ⌝ }
+    requires { ⌜ n ≤ length (now ledger) / slotBytes ⌝ }
     requires { ⌜ Asc whole (take n (slots (now ledger))) ⌝ }
     requires { ⌜ Asc whole (slotsFor (now file) (now deletes)) ⌝ }
     ensures { λ r. ⌜ r ≡ length (less (slotsFor (now (file .entry)) (now (deletes .entry))) (take n (slots (now (ledger .entry))))) ⌝ }
@@ -79,8 +79,8 @@ fn keep_live(ledger: &mut [u8], n: usize, file: &[u8], deletes: &[u32]) -> usize
 }
 
 // Whether there is a slot before i, and it does not stand below slot t.
-fn goes_last(ledger: &[u8], i: usize, t: [u8; 38]) -> bool
-    requires { ⌜ i ≤ length (now ledger) / 38 ⌝ }
+fn goes_last(ledger: &[u8], i: usize, t: [u8; SLOT]) -> bool
+    requires { ⌜ i ≤ length (now ledger) / slotBytes ⌝ }
     ensures { λ r. ⌜ r ≡ goesLast (slots (now (ledger .entry))) i t ⌝ }
 {
     if 0 < i {
@@ -95,9 +95,9 @@ fn goes_last(ledger: &[u8], i: usize, t: [u8; 38]) -> bool
 }
 
 // Puts at k whichever goes last, the slot before i or slot t; whether it is the slot before i.
-fn put_last(ledger: &mut [u8], i: usize, k: usize, t: [u8; 38]) -> bool
-    requires { ⌜ i ≤ length (now ledger) / 38 ⌝ }
-    requires { ⌜ k < length (now ledger) / 38 ⌝ }
+fn put_last(ledger: &mut [u8], i: usize, k: usize, t: [u8; SLOT]) -> bool
+    requires { ⌜ i ≤ length (now ledger) / slotBytes ⌝ }
+    requires { ⌜ k < length (now ledger) / slotBytes ⌝ }
     ensures { λ r. ⌜ r ≡ goesLast (slots (now (ledger .entry))) i t ⌝ }
     ensures { λ _. ⌜ slots (now (ledger .exit)) ≡ set (slots (now (ledger .entry))) k (lastOf (slots (now (ledger .entry))) i t) ⌝ }
 {
@@ -113,12 +113,12 @@ fn put_last(ledger: &mut [u8], i: usize, k: usize, t: [u8; 38]) -> bool
 
 // Merges the slots of the adds with the first n, from the end on, where each of both is in order; how many they are then.
 fn merge_in(ledger: &mut [u8], n: usize, file: &[u8], adds: &[u32]) -> usize
-    requires { ⌜ n + length (now adds) ≤ length (now ledger) / 38 ⌝ }
+    requires { ⌜ n + length (now adds) ≤ length (now ledger) / slotBytes ⌝ }
     requires { ⌜ Up whole (take n (slots (now ledger))) ⌝ }
     requires { ⌜ Up whole (slotsFor (now file) (now adds)) ⌝ }
     ensures { λ r. ⌜ r ≡ n + length (now (adds .entry)) ⌝ }
-    ensures { λ r. ⌜ r ≤ length (now (ledger .entry)) / 38 ⌝ }
-    ensures { λ _. ⌜ slots (now (ledger .exit)) ≡ place whole (slotsFor (now (file .entry)) (now (adds .entry))) (take n (slots (now (ledger .entry)))) ++ drop (n + length (now (adds .entry))) (slots (now (ledger .entry))) ⌝ }
+    ensures { λ r. ⌜ r ≤ length (now (ledger .entry)) / slotBytes ⌝ }
+    ensures { λ _. ⌜ slots (now (ledger .exit)) ≡ mergedIn (slots (now (ledger .entry))) n (now (file .entry)) (now (adds .entry)) ⌝ }
 {
     let all = n + adds.len();
     let mut i = n;
@@ -179,7 +179,7 @@ fn has_room(ledger: &[u8], file: &[u8], adds: &[u32], deletes: &[u32]) -> bool
     ensures { λ r. ⌜ r ≡ hasRoom (now (ledger .entry)) (now (file .entry)) (now (adds .entry)) (now (deletes .entry)) ⌝ }
 {
     let live = count_live(ledger);
-    let slots = ledger.len() / 38;
+    let slots = ledger.len() / SLOT;
     if live + adds.len() <= slots {
         return true;
     }
@@ -191,7 +191,7 @@ fn has_room(ledger: &[u8], file: &[u8], adds: &[u32], deletes: &[u32]) -> bool
 fn is_fit(ledger: &[u8], file: &[u8], adds: &[u32], deletes: &[u32]) -> bool
     ensures { λ r. ⌜ r ≡ isFit (now (ledger .entry)) (now (file .entry)) (now (adds .entry)) (now (deletes .entry)) ⌝ }
 {
-    if ledger.len() % 38 != 0 {
+    if ledger.len() % SLOT != 0 {
         return false;
     }
     if in_order(ledger) {
@@ -212,12 +212,12 @@ fn is_fit(ledger: &[u8], file: &[u8], adds: &[u32], deletes: &[u32]) -> bool
 // Deletes and adds, and frees the slots after what is live then.
 fn apply(ledger: &mut [u8], file: &[u8], adds: &[u32], deletes: &[u32])
     requires { ⌜ Fit (now ledger) (now file) (now adds) (now deletes) ⌝ }
-    ensures { λ _. ⌜ now (ledger .exit) ≡ ledgerWith (length (now (ledger .entry))) (eventsAfter (liveIn (now (ledger .entry))) (eventsAt (now (file .entry)) (now (adds .entry))) (eventsAt (now (file .entry)) (now (deletes .entry)))) ⌝ }
+    ensures { λ _. ⌜ now (ledger .exit) ≡ appliedTo (now (ledger .entry)) (now (file .entry)) (now (adds .entry)) (now (deletes .entry)) ⌝ }
 {
     let live = count_live(ledger);
     let kept = keep_live(ledger, live, file, deletes);
     let all = merge_in(ledger, kept, file, adds);
-    clear_from(ledger, all * 38);
+    clear_from(ledger, all * SLOT);
 }
 
 // What an accepted file does to the ledger, in place: the events of the lines at these places deleted and added. Unfit, it stays as it is.

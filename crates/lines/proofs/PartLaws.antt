@@ -7,7 +7,6 @@ use Prim.Native.Nat.{ℕ, zero, suc, _+_, _-_, _≤_, _<_}
 use native.Mathlib.Omega.{arith}
 use native.Mathlib.Nat.{add-sub-cancel-left}
 use lib.ListN.{length, take, drop, length-drop}
-use lib.Seq.{drop-drop, drop-nil, take-nil, take-add}
 use Rattle.house.specs.Text.{Text}
 use Rattle.house.proofs.Small.{clash}
 use Rattle.house.proofs.Members.{all-append}

@@ -15,6 +15,7 @@ pub use kinds::kind_of;
 pub use lines_fields::field;
 pub use lines_fields::field_position;
 pub use lines_fields::has_field;
+pub use lines_places::MOST_PLACES;
 
 // A file's shape: right, or the first line with a fault and its lowest cause.
 pub enum Shape {

@@ -1,4 +1,6 @@
 // The rules that are broken at a field with text t, by the kind of its record and its number.
+use book::ANTIGEN;
+use book::REASON_NOT;
 use book::Sections;
 use lines::IA;
 use lines::IE;
@@ -79,7 +81,7 @@ pub(crate) fn judge_in(
         2 => one(rules_plain::field2_number(IN, t, place)),
         3 => one(rules_plain::field3_uli(IN, t, ip)),
         5 => one(rules_plain::ii6_in5_date(IN, 5, t, today, born)),
-        6 => one(rules_fields::code_field(IN, false, 6, t, 6, t, book, q, day)),
+        6 => one(rules_fields::code_field(IN, false, 6, t, REASON_NOT, t, book, q, day)),
         _ => one(rules_forms::rules1_and_2(IN, false, f, t)),
     }
 }
@@ -104,7 +106,7 @@ pub(crate) fn judge_ia(
     match f {
         2 => one(rules_plain::field2_number(IA, t, place)),
         3 => one(rules_plain::field3_uli(IA, t, ip)),
-        4 => one(rules_fields::code_field(IA, false, 4, t, 2, t, book, q, day)),
+        4 => one(rules_fields::code_field(IA, false, 4, t, ANTIGEN, t, book, q, day)),
         _ => one(rules_forms::rules1_and_2(IA, false, f, t)),
     }
 }

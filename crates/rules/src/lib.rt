@@ -9,6 +9,7 @@ mod walk;
 
 pub use pass::judge;
 use rules_fields::Day;
+pub use rules_walk::MOST_BYTES;
 pub use rules_walk::count_of;
 pub use rules_walk::keep;
 pub use rules_walk::part_of;

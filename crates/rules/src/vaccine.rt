@@ -1,5 +1,6 @@
 // The rules that are broken at a field of an II with text t, by its number.
 use crate::fields::one;
+use book::MANUFACTURER;
 use book::Sections;
 use lines::II;
 use rules_fields::Broken;
@@ -48,7 +49,7 @@ pub(crate) fn judge_ii(
         11 => rules_fields::ii11_reason(line, relaxed, t, book, q, day),
         12 => rules_fields::ii12_dosage(line, relaxed, t),
         13 => rules_fields::ii13_dosage_type(line, relaxed, t, book, q, day),
-        14 => one(rules_fields::code_field(II, relaxed, 14, t, 4, t, book, q, day)),
+        14 => one(rules_fields::code_field(II, relaxed, 14, t, MANUFACTURER, t, book, q, day)),
         15 => one(rules_plain::ii15_lot(relaxed, t, block)),
         _ => one(rules_forms::rules1_and_2(II, relaxed, f, t)),
     }

@@ -17,7 +17,7 @@ fn next_place(place: usize, k: u8) -> usize
     ensures { λ r. ⌜ r ≡ nextPlace place k ⌝ }
 {
     match k {
-        3..=7 => place + 1,
+        lines::IP..=lines::IA => place + 1,
         _ => place,
     }
 }

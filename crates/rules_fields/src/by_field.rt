@@ -12,13 +12,18 @@ use crate::by_rule::rule13_antigens_differ;
 use crate::by_rule::rules16_to_18;
 use crate::codes::code_field;
 use crate::codes::rule11_pair;
+use book::ANTIGEN;
+use book::DOSAGE_TYPE;
+use book::REASON;
 use book::Sections;
+use book::VACCINE;
+use book::WITH_ANTIGEN;
+use book::WITH_REASON;
 use lines::IE;
 use lines::II;
 ghost use mathlib.Core.Path.{_≡_};
-ghost use mathlib.Core.Bool.{cond};
 ghost use Rattle.lines.specs.Records.{recOf};
-ghost use Rattle.rules_fields.specs.Fields.{ii4Type, ii8Vaccine, ii9Site, ii10Method, ii11Reason, ii12Dosage, ii13DosageType, ie4Antigen};
+ghost use Rattle.rules_fields.specs.Fields.{rule15By, ii4Type, ii8Vaccine, ii9Site, ii10Method, ii11Reason, ii12Dosage, ii13DosageType, ie4Antigen};
 
 // II 4: rules 1, 2 and 16 to 18.
 pub fn ii4_type(t: &[u8], facts: Facts) -> Broken
@@ -31,7 +36,7 @@ pub fn ii4_type(t: &[u8], facts: Facts) -> Broken
 
 // Rule 15 at II 8.
 fn rule15_event_again(repeated: bool) -> u8
-    ensures { λ r. ⌜ r ≡ cond repeated 15 0 ⌝ }
+    ensures { λ r. ⌜ r ≡ rule15By repeated ⌝ }
 {
     if repeated { 15 } else { 0 }
 }
@@ -48,7 +53,7 @@ pub fn ii8_vaccine(
 ) -> Broken
     ensures { λ r. ⌜ r ≡ ii8Vaccine (now (t .entry)) (now (own .entry)) (now (first .entry)) (now (book .entry)) q day facts ⌝ }
 {
-    let a = code_field(II, false, 8, t, 1, t, book, q, day);
+    let a = code_field(II, false, 8, t, VACCINE, t, book, q, day);
     let b = rule13_antigens_differ(facts.joined, own, first);
     let c = rule15_event_again(facts.repeated);
     Broken { a, b, c }
@@ -86,8 +91,21 @@ pub fn ii11_reason(
     ensures { λ r. ⌜ r ≡ ii11Reason (recOf (now (line .entry))) relaxed (now (t .entry)) (now (book .entry)) q day ⌝ }
 {
     let read = rules_tables::reason_read(t);
-    let a = code_field(II, relaxed, 11, t, 3, &read, book, q, day);
-    let b = rule11_pair(a, II, line, 11, t, 3, &read, 7, line, book, q, day);
+    let a = code_field(II, relaxed, 11, t, REASON, &read, book, q, day);
+    let b = rule11_pair(
+        a,
+        II,
+        line,
+        11,
+        t,
+        REASON,
+        &read,
+        WITH_REASON,
+        line,
+        book,
+        q,
+        day,
+    );
     Broken { a, b, c: 0 }
 }
 
@@ -111,7 +129,7 @@ pub fn ii13_dosage_type(
 ) -> Broken
     ensures { λ r. ⌜ r ≡ ii13DosageType (recOf (now (line .entry))) relaxed (now (t .entry)) (now (book .entry)) q day ⌝ }
 {
-    let a = code_field(II, relaxed, 13, t, 5, t, book, q, day);
+    let a = code_field(II, relaxed, 13, t, DOSAGE_TYPE, t, book, q, day);
     let b = rule10_partner_missing(line, relaxed, t, 12);
     Broken { a, b, c: 0 }
 }
@@ -128,8 +146,21 @@ pub fn ie4_antigen(
 ) -> Broken
     ensures { λ r. ⌜ r ≡ ie4Antigen (now (line .entry)) (now (head .entry)) (now (since .entry)) (now (t .entry)) (now (book .entry)) q day ⌝ }
 {
-    let a = code_field(IE, false, 4, t, 2, t, book, q, day);
-    let b = rule11_pair(a, IE, line, 4, t, 2, t, 8, head, book, q, day);
+    let a = code_field(IE, false, 4, t, ANTIGEN, t, book, q, day);
+    let b = rule11_pair(
+        a,
+        IE,
+        line,
+        4,
+        t,
+        ANTIGEN,
+        t,
+        WITH_ANTIGEN,
+        head,
+        book,
+        q,
+        day,
+    );
     let c = rule12_antigen_again(t, since);
     Broken { a, b, c }
 }

@@ -2,20 +2,17 @@
 use lines::IE;
 use lines::II;
 ghost use mathlib.Core.Path.{_≡_};
-ghost use mathlib.Core.Bool.{cond, false, _&&_};
-ghost use lib.Dec.{eqb};
-ghost use Rattle.house.specs.Text.{any, isEmpty};
-ghost use Rattle.lines.specs.Records.{recOf, recs};
-ghost use Rattle.rules_definitions.specs.Forms.{text, isGiven};
+ghost use mathlib.Core.Bool.{false, _&&_};
+ghost use Rattle.house.specs.Text.{isEmpty};
+ghost use Rattle.lines.specs.Records.{II, recOf};
+ghost use Rattle.rules_definitions.specs.Forms.{isGiven};
 ghost use Rattle.rules_definitions.specs.Codes.{isSite, isMethod};
-ghost use Rattle.rules_definitions.specs.Rules.{siteWrong, methodWrong, countsSound, setsDiffer};
 ghost use Rattle.rules_forms.specs.FieldLeaves.{lowestIn};
-ghost use Rattle.rules_lists.specs.Among.{antigenIs};
-ghost use Rattle.rules_fields.specs.Fields.{codeLater, rules16to18At, rule10By};
+ghost use Rattle.rules_fields.specs.Fields.{codeLater, rules16to18At, rule9AtSite, rule9AtMethod, rule10By, rule12By, rule13By};
 
 // II 9: rules 1, 2 and 4.
 pub(crate) fn rule4_site(relaxed: bool, t: &[u8]) -> u8
-    ensures { λ r. ⌜ r ≡ lowestIn 4 relaxed 9 (now (t .entry)) (codeLater (isEmpty (now (t .entry))) (isSite (now (t .entry))) false) ⌝ }
+    ensures { λ r. ⌜ r ≡ lowestIn II relaxed 9 (now (t .entry)) (codeLater (isEmpty (now (t .entry))) (isSite (now (t .entry))) false) ⌝ }
 {
     let r = rules_forms::rules1_and_2(II, relaxed, 9, t);
     if r != 0 {
@@ -29,7 +26,7 @@ pub(crate) fn rule4_site(relaxed: bool, t: &[u8]) -> u8
 
 // II 10: rules 1, 2 and 4.
 pub(crate) fn rule4_method(relaxed: bool, t: &[u8]) -> u8
-    ensures { λ r. ⌜ r ≡ lowestIn 4 relaxed 10 (now (t .entry)) (codeLater (isEmpty (now (t .entry))) (isMethod (now (t .entry))) false) ⌝ }
+    ensures { λ r. ⌜ r ≡ lowestIn II relaxed 10 (now (t .entry)) (codeLater (isEmpty (now (t .entry))) (isMethod (now (t .entry))) false) ⌝ }
 {
     let r = rules_forms::rules1_and_2(II, relaxed, 10, t);
     if r != 0 {
@@ -43,7 +40,7 @@ pub(crate) fn rule4_method(relaxed: bool, t: &[u8]) -> u8
 
 // Whether site and method are both given.
 fn both_given(line: &[u8]) -> bool
-    ensures { λ r. ⌜ r ≡ isGiven 4 (recOf (now (line .entry))) 9 && isGiven 4 (recOf (now (line .entry))) 10 ⌝ }
+    ensures { λ r. ⌜ r ≡ isGiven II (recOf (now (line .entry))) 9 && isGiven II (recOf (now (line .entry))) 10 ⌝ }
 {
     if rules_forms::is_given(II, line, 9) {
         rules_forms::is_given(II, line, 10)
@@ -54,7 +51,7 @@ fn both_given(line: &[u8]) -> bool
 
 // Rule 9 at II 9, whose text is the site.
 pub(crate) fn rule9_site(line: &[u8], site: &[u8]) -> u8
-    ensures { λ r. ⌜ r ≡ cond (siteWrong (now (site .entry)) (text (recOf (now (line .entry))) 10) && (isGiven 4 (recOf (now (line .entry))) 9 && isGiven 4 (recOf (now (line .entry))) 10)) 9 0 ⌝ }
+    ensures { λ r. ⌜ r ≡ rule9AtSite (recOf (now (line .entry))) (now (site .entry)) ⌝ }
 {
     if rules_tables::rule9_site_wrong(site, lines_fields::field_of(line, 10)) {
         if both_given(line) {
@@ -66,7 +63,7 @@ pub(crate) fn rule9_site(line: &[u8], site: &[u8]) -> u8
 
 // Rule 9 at II 10, whose text is the method.
 pub(crate) fn rule9_method(line: &[u8], method: &[u8]) -> u8
-    ensures { λ r. ⌜ r ≡ cond (methodWrong (text (recOf (now (line .entry))) 9) (now (method .entry)) && (isGiven 4 (recOf (now (line .entry))) 9 && isGiven 4 (recOf (now (line .entry))) 10)) 9 0 ⌝ }
+    ensures { λ r. ⌜ r ≡ rule9AtMethod (recOf (now (line .entry))) (now (method .entry)) ⌝ }
 {
     if rules_tables::rule9_method_wrong(lines_fields::field_of(line, 9), method) {
         if both_given(line) {
@@ -90,7 +87,7 @@ pub(crate) fn rule10_partner_missing(line: &[u8], relaxed: bool, t: &[u8], other
 
 // Rule 12 at IE 4, of an antigen and the IE lines of its II before it.
 pub(crate) fn rule12_antigen_again(t: &[u8], since: &[u8]) -> u8
-    ensures { λ r. ⌜ r ≡ cond (eqb (lowestIn 5 false 4 (now (t .entry)) 0) 0 && any (antigenIs (now (t .entry))) (recs (now (since .entry)))) 12 0 ⌝ }
+    ensures { λ r. ⌜ r ≡ rule12By (now (t .entry)) (now (since .entry)) ⌝ }
 {
     if rules_forms::rules1_and_2(IE, false, 4, t) == 0 {
         if rules_lists::rule12_any_antigen(t, since) {
@@ -102,7 +99,7 @@ pub(crate) fn rule12_antigen_again(t: &[u8], since: &[u8]) -> u8
 
 // Rule 13 at II 8, of the IE lines of an II that is not its block's first, and of those of the first. The sets are asked for first: most are one.
 pub(crate) fn rule13_antigens_differ(joined: bool, own: &[u8], first: &[u8]) -> u8
-    ensures { λ r. ⌜ r ≡ cond (joined && (countsSound (recs (now (own .entry))) && (countsSound (recs (now (first .entry))) && setsDiffer (recs (now (own .entry))) (recs (now (first .entry)))))) 13 0 ⌝ }
+    ensures { λ r. ⌜ r ≡ rule13By joined (now (own .entry)) (now (first .entry)) ⌝ }
 {
     if joined {
         if rules_lists::rule13_sets_differ(own, first) {

@@ -3,15 +3,16 @@ use crate::Day;
 use book::Found;
 use book::Sections;
 use book::Standing;
+use book::VACCINE;
 use lines::II;
 ghost use mathlib.Core.Path.{_≡_};
-ghost use mathlib.Core.Bool.{false, not, _&&_, _||_};
+ghost use mathlib.Core.Bool.{false, _&&_};
 ghost use mathlib.Core.List.{[]};
 ghost use Rattle.lines.specs.Records.{recOf};
 ghost use Rattle.book.specs.Book.{codeText};
 ghost use Rattle.rules_definitions.specs.Forms.{isGiven};
-ghost use Rattle.rules_fields.specs.Look.{knownBy, forceBy};
-ghost use Rattle.rules_fields.specs.Fields.{codeLater, codeBy, unpairedBy, rule11By};
+ghost use Rattle.rules_fields.specs.Look.{knownBy};
+ghost use Rattle.rules_fields.specs.Fields.{rules4and5By, isPairWrong, codeBy, unpairedBy, rule11By};
 
 // Whether the book has a code of a kind.
 fn is_known(book: &[u8], q: Sections, kind: u8, code: &[u8]) -> bool
@@ -26,7 +27,7 @@ fn is_known(book: &[u8], q: Sections, kind: u8, code: &[u8]) -> bool
 
 // Rule 4 or 5 of a code that is given: not known, or out of force on a day that is sound.
 fn rules4_and_5_code(book: &[u8], q: Sections, kind: u8, code: &[u8], day: Day) -> u8
-    ensures { λ r. ⌜ r ≡ codeLater false (knownBy (now (book .entry)) q kind (codeText kind (now (code .entry)) [])) (day .sound && not (forceBy (now (book .entry)) q (day .number) kind (codeText kind (now (code .entry)) []))) ⌝ }
+    ensures { λ r. ⌜ r ≡ rules4and5By kind (now (code .entry)) (now (book .entry)) q day ⌝ }
 {
     let s = book::look_up(book, q, kind, code, &code[..0], day.number);
     match s {
@@ -38,7 +39,7 @@ fn rules4_and_5_code(book: &[u8], q: Sections, kind: u8, code: &[u8], day: Day) 
 
 // Whether a pair of codes is absent, or out of force on a day that is sound.
 fn pair_wrong(book: &[u8], q: Sections, kind: u8, a: &[u8], b: &[u8], day: Day) -> bool
-    ensures { λ r. ⌜ r ≡ not (knownBy (now (book .entry)) q kind (codeText kind (now (a .entry)) (now (b .entry)))) || (day .sound && not (forceBy (now (book .entry)) q (day .number) kind (codeText kind (now (a .entry)) (now (b .entry))))) ⌝ }
+    ensures { λ r. ⌜ r ≡ isPairWrong kind (now (a .entry)) (now (b .entry)) (now (book .entry)) q day ⌝ }
 {
     let s = book::look_up(book, q, kind, a, b, day.number);
     match s {
@@ -133,7 +134,7 @@ pub(crate) fn rule11_pair(
     }
     let vaccine = lines_fields::field_of(head, 8);
     if pair_wrong(book, q, pair, vaccine, code, day) {
-        if is_known_at(II, head, 8, 1, vaccine, book, q) {
+        if is_known_at(II, head, 8, VACCINE, vaccine, book, q) {
             if is_known_at(kind, line, f, of, code, book, q) {
                 return 11;
             }

@@ -13,6 +13,9 @@ pub use parts::keep;
 pub use parts::part_of;
 pub use walk::build;
 
+// The longest file whose index is built.
+pub const MOST_BYTES: usize = 5000000;
+
 // An index is built, of so many blocks, and whether no two of them name one event; or there are too many.
 pub enum Built {
     Blocks { blocks: usize, distinct: bool },

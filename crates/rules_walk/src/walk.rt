@@ -1,10 +1,12 @@
 // The walk from line to line that finds where blocks begin, and the index that it builds.
 use crate::Built;
+use crate::MOST_BYTES;
 use crate::Turn;
 use crate::blocks::in_block;
 use crate::blocks::joins;
 use crate::line::line_text;
 use crate::line::put;
+use lines_places::MOST_PLACES;
 ghost use mathlib.Core.Path.{_≡_};
 ghost use mathlib.Core.Bool.{not, cond};
 ghost use Prim.Native.Nat.{_<_, _≤_};
@@ -13,7 +15,7 @@ ghost use lib.ListN.{length, take, drop};
 ghost use Rattle.lines_places.specs.Sorted.{sortedAt, sortedApart};
 ghost use Rattle.lines.specs.Records.{IE, isKind, recOf};
 ghost use Rattle.rules_definitions.specs.Blocks.{joins};
-ghost use Rattle.rules_walk.specs.Firsts.{firstsOf, over, builtOf, builtIn};
+ghost use Rattle.rules_walk.specs.Firsts.{bytesMost, firstsOf, over, builtOf, builtIn};
 ghost use Rattle.rules_walk.specs.Inside.{recAt, turnOf};
 
 // Whether a line does not join the line at last.
@@ -62,7 +64,7 @@ fn turn(file: &[u8], at: usize, last: usize) -> Turn
 
 // Writes where each block's first II line starts to the front of an area, as many as fit; how many blocks there are.
 fn gather(file: &[u8], index: &mut [u32]) -> usize
-    requires { ⌜ length (now file) ≤ 5000000 ⌝ }
+    requires { ⌜ length (now file) ≤ bytesMost ⌝ }
     ensures { λ r. ⌜ r ≡ length (firstsOf (now (file .entry))) ⌝ }
     ensures { λ _. ⌜ now (index .exit) ≡ over (firstsOf (now (file .entry))) (now (index .entry)) ⌝ }
 {
@@ -97,11 +99,11 @@ pub fn build(file: &[u8], index: &mut [u32]) -> Built
     ensures { λ r. ⌜ r ≡ builtOf (now (file .entry)) (length (now (index .entry))) ⌝ }
     ensures { λ _. ⌜ now (index .exit) ≡ builtIn (now (file .entry)) (now (index .entry)) ⌝ }
 {
-    if 5000000 < file.len() {
+    if MOST_BYTES < file.len() {
         return Built::TooMany;
     }
     let n = gather(file, index);
-    if 96154 < n {
+    if MOST_PLACES < n {
         return Built::TooMany;
     }
     if index.len() < n {

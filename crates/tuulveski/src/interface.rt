@@ -91,7 +91,8 @@ pub extern "C" fn tuulveski_check(
     ledger: &mut [u8],
     findings: &mut [u8],
 ) -> Numbers
-    ensures { λ r. ⌜ GivesNumbers (lent today (now (file .entry)) (now (book .entry)) (now (ledger .entry)) (now (findings .entry))) r (now (ledger .exit)) (now (findings .exit)) ⌝ }
+    ensures { λ r. ⌜ GivesNumbers (lent today (now (file .entry)) (now (book .entry)) (now (ledger .entry)) (now (findings .entry)))
+        r (now (ledger .exit)) (now (findings .exit)) ⌝ }
 {
     let a = answers::check(today, file, book, ledger, findings);
     numbers_of(a)
