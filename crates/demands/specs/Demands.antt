@@ -92,7 +92,7 @@ pub record LedgerAfter (x : Lent) (o : Outcome) : Type 0 where
   pub same-length : length (o .ledger) ≡ length (x .ledger)
   pub in-form : isAccepted (o .answer) ≡ true → ledgerOk (o .ledger) ≡ true
   pub holds : isAccepted (o .answer) ≡ true → (e : Event) → In e (liveIn (o .ledger)) ↔ (In e (added x) ⊎ (In e (liveIn (x .ledger)) × (In e (deleted x) → ⊥)))
-  -- "Lots in one block howMany once": no event is added or deleted twice by one file, nor both
+  -- "Lots in one block count once": no event is added or deleted twice by one file, nor both
   pub adds-once : isAccepted (o .answer) ≡ true → Distinct (added x)
   pub deletes-once : isAccepted (o .answer) ≡ true → Distinct (deleted x)
   pub not-both : isAccepted (o .answer) ≡ true → (e : Event) → In e (added x) → In e (deleted x) → ⊥
