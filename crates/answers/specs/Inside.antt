@@ -40,7 +40,7 @@ pub record Ready (x : Lent) (q : Sections) (live : ℕ) : Type 0 where
   pub live-is : live ≡ length (liveIn (x .ledger))
 
 abbrev pub tally : ℕ → ℕ → ℕ → Tally
-tally blocks found «not_immunized» = record { blocks = blocks; findings = found; «not_immunized» = not-immunized }
+tally blocks found not-immunized = record { blocks = blocks; findings = found; «not_immunized» = not-immunized }
 
 -- how many blocks, findings and IN records there are
 unfoldable pub tallyOf : Lent → Tally

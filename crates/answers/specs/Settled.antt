@@ -1,4 +1,4 @@
--- What settling the blocks of an index leaves, for any bytes and places that are lent: whether there was room, the ledger, and the index.
+-- Working definitions: what settling the blocks of an index leaves, for any bytes and places that are lent: whether there was room, the ledger, and the index.
 -- Assumes nothing.
 use Prim.Native.Nat.{ℕ, _+_}
 use mathlib.Core.Bool.{Bool, cond, _&&_}

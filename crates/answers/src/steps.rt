@@ -76,7 +76,7 @@ fn settle_blocks(
     blocks: usize,
     not_immunized: usize,
 ) -> Answer
-    requires { ⌜ Settling (now file) (now ledger) live (take blocks (now buffer)) not_immunized ⌝ }
+    requires { ⌜ Settling (now file) (now ledger) live (take blocks (now buffer)) «not_immunized» ⌝ }
     requires { ⌜ blocks ≤ length (now buffer) ⌝ }
     ensures { λ r. ⌜ left r (now (ledger .exit)) [] ≡ roomed (lent 0 (now (file .entry)) [] (now (ledger .entry)) []) ⌝ }
 {

@@ -1,4 +1,4 @@
--- What each need of the look-up asks: `Sections::start`, `codes_fit`, `widths_of`, `code_order`, `section_count`, `probe`, `found_if`, `guessed`,
+-- What each need of the look-up asks: `Sections::start`, `codes_fit`, `widths_of`, `code_order`, `section_count`, `probe`, `found_if`, `at_hash`,
 -- `seek`, `sought` and `find`.
 -- Assumes nothing.
 use mathlib.Core.Path.{_≡_, refl, sym, ap, _∙_}

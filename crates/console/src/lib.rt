@@ -1,5 +1,4 @@
-// The program that document 01 calls `check`: what it reads, what it answers, and what it prints. Programs that run it on an input of their
-// own share this crate.
+// The program that document 01 calls `check`: what it reads, what it answers, and what it prints.
 mod input;
 mod output;
 

@@ -1,4 +1,4 @@
--- What the crate's own functions answer: cited by private contracts and by laws alone.
+-- Working definitions: what small functions answer, and parts of a text.
 -- Assumes nothing.
 use Prim.Native.Nat.{ℕ, suc, _-_}
 use mathlib.Core.Bool.{cond}

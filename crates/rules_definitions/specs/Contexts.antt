@@ -1,4 +1,4 @@
--- A line in its place: its number, the lines before it, nearest first, and the lines after it.
+-- A line in its context: its number, the lines before it, nearest first, and the lines after it.
 -- Assumes nothing.
 use Prim.Native.Nat.{ℕ, suc}
 use mathlib.Core.Bool.{Bool, cond}
@@ -13,7 +13,7 @@ pub record Context : Type 0 where
   pub line : Rec
   pub after : List Rec
 
--- the lines from number n on, each in its place
+-- the lines from number n on, each in its context
 abbrev pub contextsFrom : ℕ → List Rec → List Rec → List Context
 contextsFrom n before [] = []
 contextsFrom n before (l ∷ after) = record { number = n; before = before; line = l; after = after } ∷ contextsFrom (suc n) (l ∷ before) after
@@ -22,7 +22,7 @@ contextsFrom n before (l ∷ after) = record { number = n; before = before; line
 unfoldable pub contextsOf : List Rec → List Context
 contextsOf ls = contextsFrom 1 [] ls
 
--- the lines of a file in their places
+-- the lines of a file in their contexts
 unfoldable pub contextsIn : Text → List Context
 contextsIn file = contextsOf (recs file)
 

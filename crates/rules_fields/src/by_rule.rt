@@ -113,7 +113,7 @@ pub(crate) fn rule13_antigens_differ(joined: bool, own: &[u8], first: &[u8]) -> 
     0
 }
 
-// Rules 16 to 18 at II 4, by the submission type and whether the event is live.
+// Which of rule16, rule17 and rule18 is broken at II 4, by the submission type and whether the event is live.
 pub(crate) fn rules16_to_18(inb: bool, t: &[u8], live: bool) -> u8
     ensures { λ r. ⌜ r ≡ rules16to18At inb (now (t .entry)) live ⌝ }
 {

@@ -25,7 +25,7 @@ fn is_known(book: &[u8], q: Sections, kind: u8, code: &[u8]) -> bool
     }
 }
 
-// Rule 4 or 5 of a code that is given: not known, or out of force on a day that is sound.
+// Which of rule4 and rule5 is broken by a code that is given: not known, or out of force on a day that is sound.
 fn rules4_and_5_code(book: &[u8], q: Sections, kind: u8, code: &[u8], day: Day) -> u8
     ensures { λ r. ⌜ r ≡ rules4and5By kind (now (code .entry)) (now (book .entry)) q day ⌝ }
 {

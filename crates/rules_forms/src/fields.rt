@@ -212,7 +212,7 @@ fn is_optional(kind: u8, relaxed: bool, f: usize) -> bool
     }
 }
 
-// Which of rules 1 and 2 is broken at field f of a record of a kind, by the field's text; 0 for neither.
+// Which of rule1 and rule2 is broken at field f of a record of a kind, by the field's text; 0 for neither.
 pub fn rules1_and_2(kind: u8, relaxed: bool, f: usize, t: &[u8]) -> u8
     ensures { λ r. ⌜ r ≡ lowestIn kind relaxed f (now (t .entry)) 0 ⌝ }
 {
