@@ -4,3 +4,4 @@ pub mod FileLaws
 pub mod RunLaws
 pub mod DemandLaws
 pub mod CodeLaws
+pub mod FirstOnlyLaws

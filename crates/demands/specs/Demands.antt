@@ -162,6 +162,10 @@ OnlyFirst check = (ledger : Text) (s : Step) (ss : List Step)
     → (s .left .ledger ≡ ledger → ⊥)
     → ledgerAfterRun ledger (s ∷ ss) ≡ s .left .ledger
 
+-- there is one that meets demand 2, so that it takes demand 3 to shut it out
+abbrev pub OnlyFirstThere : Type 0
+OnlyFirstThere = (check : Check) × ((x : Lent) → Demand2 x (check x)) × OnlyFirst check
+
 pub record UselessShutOut : Type 0 where
   pub refuses-all : (check : Check) → ((x : Lent) → Demand2 x (check x)) → RefusesAll check → ⊥
   pub constant : (check : Check) → ((x : Lent) → Demand2 x (check x)) → Constant check → ⊥
