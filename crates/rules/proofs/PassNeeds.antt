@@ -223,11 +223,11 @@ module _ (file : Text) (at : ℕ) (l : LineAt) (k : ℕ) (st : State) (b : Block
   long : length (part file at (l .end)) ≡ l .end - at
   long = length-take-le (l .end - at) (drop at file) (omega (arith, length-drop at file, end-in))
 
-  pub line-few : (howMany : ℕ) → howMany ≤ 3 * at → howMany + 3 * length (fieldsOf (part file at (l .end))) < 2 ^ 63
-  line-few howMany c = omega (arith, fields-few (part file at (l .end)), long, end-in, g .short, g .less)
+  pub line-few : (count : ℕ) → count ≤ 3 * at → count + 3 * length (fieldsOf (part file at (l .end))) < 2 ^ 63
+  line-few count c = omega (arith, fields-few (part file at (l .end)), long, end-in, g .short, g .less)
 
-  pub line-less : (howMany r : ℕ) → howMany ≤ 3 * at → r ≤ howMany + 3 * length (fieldsOf (part file at (l .end))) → r ≤ 3 * l .next
-  line-less howMany r c m = omega (arith, fields-few (part file at (l .end)), long, e .from, e .on)
+  pub line-less : (count r : ℕ) → count ≤ 3 * at → r ≤ count + 3 * length (fieldsOf (part file at (l .end))) → r ≤ 3 * l .next
+  line-less count r c m = omega (arith, fields-few (part file at (l .end)), long, e .from, e .on)
 
   pub parts-in : (p : Span) → p ≡ headAt st k (span at (l .end)) → (joined : Bool) (own : ℕ) → OwnEnd file joined (l .next) own → PartsIn file at l st (b .from) p own
   parts-in p i joined own o =
@@ -286,11 +286,11 @@ module _ (file : Text) (at : ℕ) (l : LineAt) (k : ℕ) (st : State) (b : Block
               };
         }
 
-    pub line-judged : (n howMany r : ℕ) (area after : Text)
+    pub line-judged : (n count r : ℕ) (area after : Text)
         → ((s : Setting) (v : Seen)
         → Told today book q (st .place) (st .known .born) (part file at (l .end)) (partOf file (st .ip)) (partOf file p) (part file (st .since) at) (part file (b .from) at) (part file (l .next) own) (partOf file (st .first)) day facts s v
-        → kept r after ≡ keep (fieldsFindings s n v 1 (length (fieldsOf (part file at (l .end))))) (kept howMany area))
-        → (s : Setting) → Looks today book q s → kept r after ≡ keep (fieldsFindings s n view 1 (length (fieldsOf (part file at (l .end))))) (kept howMany area)
-    line-judged n howMany r area after y s ls = y s view (told s ls)
+        → kept r after ≡ keep (fieldsFindings s n v 1 (length (fieldsOf (part file at (l .end))))) (kept count area))
+        → (s : Setting) → Looks today book q s → kept r after ≡ keep (fieldsFindings s n view 1 (length (fieldsOf (part file at (l .end))))) (kept count area)
+    line-judged n count r area after y s ls = y s view (told s ls)
 
 pub ruleset for-judge-line = (needs, next-in, end-in, head-from, head-in, head-start, parts-in, line-few, line-less, next-ended, line-judged)

@@ -118,20 +118,20 @@ module _ (file : Text) (at : ℕ) (st : State) (h : Holds file at st) (l : LineA
         (part file (b .from) at) (front (isKind IE) (recs (drop (l .next) file))) (partOf file (st .first)) (b .inb) (b .joined) (b .inb && foundBefore file index (eventOf L) (b .from))
         (b .inb && foundIn ledger live (eventOf L)) (foundIn ledger live (eventOf L)) (masked (b .inb) (eventOf L)) n 1 m)
 
-    pub turn-is : (howMany c : ℕ) (area after : Text) (st2 : State)
+    pub turn-is : (count c : ℕ) (area after : Text) (st2 : State)
         → ((s : Setting) → Looks today book q s
-        → kept c after ≡ keep (fieldsFindings s (st .n) (seenWith file at st (part file at (l .end)) (headAt st k (span at (l .end))) (b .from) (front (isKind IE) (recs (drop (l .next) file))) facts) 1 (length (fieldsOf (part file at (l .end))))) (kept howMany area))
+        → kept c after ≡ keep (fieldsFindings s (st .n) (seenWith file at st (part file at (l .end)) (headAt st k (span at (l .end))) (b .from) (front (isKind IE) (recs (drop (l .next) file))) facts) 1 (length (fieldsOf (part file at (l .end))))) (kept count area))
         → c ≤ 3 * l .next → (day : Day) → day ≡ dayBy k (part file at (l .end)) (st .known) → (known : Known) → known ≡ nextKnown (st .known) k (part file at (l .end)) day
         → st2 ≡ advanced st k (span at (l .end)) (l .next) b known
-        → TurnIs (settingBy today book q (foundIn ledger live)) file at st howMany area (record { at = l .next; st = st2; howMany = c }) after
+        → TurnIs (settingBy today book q (foundIn ledger live)) file at st count area (record { at = l .next; st = st2; count = c }) after
     unfolding advanced
-    turn-is howMany c area after st2 y m day dy known kn z =
+    turn-is count c area after st2 y m day dy known kn z =
         record {
           holds = rw (z, kn) (holds-step file at st h l e less k ki b bi day dy);
           on = at-past file at l e less;
           upto = omega (arith, e .within);
           few = m;
-          left = rw z (turn-goes S file at st h l e less k ki b bi howMany c area after (y S looks ∙ ap (λ (xs : _). keep xs (kept howMany area)) (same-findings (st .n) (length (fieldsOf (part file at (l .end)))))));
+          left = rw z (turn-goes S file at st h l e less k ki b bi count c area after (y S looks ∙ ap (λ (xs : _). keep xs (kept count area)) (same-findings (st .n) (length (fieldsOf (part file at (l .end)))))));
         }
 
 pub turn-fits : (file : Text) (at : ℕ) (st : State) → Holds file at st → at < length file → length file ≤ 5000000 → (st .n + 1 < 2 ^ 64) × (st .place + 1 < 2 ^ 64) × (st .«not_immunized» + 1 < 2 ^ 64)

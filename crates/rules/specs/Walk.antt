@@ -267,9 +267,9 @@ unfoldable pub restOf : Setting → Text → ℕ → ℕ → List Finding
 restOf s file at n = joined (lineFindings s) (contextsFrom n (linesBefore file at) (recs (drop at file)))
 
 -- one turn of the walk: a line's findings are put to the others, and those from the next line on are left
-pub record TurnIs (s : Setting) (file : Text) (at : ℕ) (st : State) (howMany : ℕ) (area : Text) (r : Turn) (after : Text) : Type 0 where
+pub record TurnIs (s : Setting) (file : Text) (at : ℕ) (st : State) (count : ℕ) (area : Text) (r : Turn) (after : Text) : Type 0 where
   pub holds : Holds file (r .at) (r .st)
   pub on : at < r .at
   pub upto : r .at ≤ length file
   pub few : r .count ≤ 3 * r .at
-  pub left : keep (restOf s file at (st .n)) (kept howMany area) ≡ keep (restOf s file (r .at) (r .st .n)) (kept (r .count) after)
+  pub left : keep (restOf s file at (st .n)) (kept count area) ≡ keep (restOf s file (r .at) (r .st .n)) (kept (r .count) after)

@@ -69,7 +69,7 @@ fn judge_parts(
     requires { ⌜ PartsIn (now file) at l st from head own ⌝ }
     requires { ⌜ k ≡ recordOf (part (now file) at (l .end)) ⌝ }
     requires { ⌜ count + 3 * length (fieldsOf (part (now file) at (l .end))) < 2 ^ 63 ⌝ }
-    ensures { λ r. ⌜ ((s : Setting) (v : Seen) → Told today (now (book .entry)) q (st .place) (st .known .born) (part (now (file .entry)) at (l .end)) (partOf (now (file .entry)) (st .ip)) (partOf (now (file .entry)) head) (part (now (file .entry)) (st .since) at) (part (now (file .entry)) from at) (part (now (file .entry)) (l .next) own) (partOf (now (file .entry)) (st .first)) day facts s v → kept r (now (area .exit)) ≡ keep (fieldsFindings s (st .n) v 1 (length (fieldsOf (part (now (file .entry)) at (l .end))))) (kept howMany (now (area .entry)))) ⌝ }
+    ensures { λ r. ⌜ ((s : Setting) (v : Seen) → Told today (now (book .entry)) q (st .place) (st .known .born) (part (now (file .entry)) at (l .end)) (partOf (now (file .entry)) (st .ip)) (partOf (now (file .entry)) head) (part (now (file .entry)) (st .since) at) (part (now (file .entry)) from at) (part (now (file .entry)) (l .next) own) (partOf (now (file .entry)) (st .first)) day facts s v → kept r (now (area .exit)) ≡ keep (fieldsFindings s (st .n) v 1 (length (fieldsOf (part (now (file .entry)) at (l .end))))) (kept count (now (area .entry)))) ⌝ }
     ensures { λ r. ⌜ r ≤ count + 3 * length (fieldsOf (part (now (file .entry)) at (l .end))) ⌝ }
 {
     let end = l.end;
@@ -125,7 +125,7 @@ fn judge_line(
     requires { ⌜ Ready (now file) at l k st b ⌝ }
     requires { ⌜ day ≡ dayBy k (part (now file) at (l .end)) (st .known) ⌝ }
     requires { ⌜ count ≤ 3 * at ⌝ }
-    ensures { λ r. ⌜ ((s : Setting) → Looks today (now (book .entry)) q s → kept r (now (area .exit)) ≡ keep (fieldsFindings s (st .n) (seenWith (now (file .entry)) at st (part (now (file .entry)) at (l .end)) (headAt st k (span at (l .end))) (b .from) (front (isKind IE) (recs (drop (l .next) (now (file .entry))))) facts) 1 (length (fieldsOf (part (now (file .entry)) at (l .end))))) (kept howMany (now (area .entry)))) ⌝ }
+    ensures { λ r. ⌜ ((s : Setting) → Looks today (now (book .entry)) q s → kept r (now (area .exit)) ≡ keep (fieldsFindings s (st .n) (seenWith (now (file .entry)) at st (part (now (file .entry)) at (l .end)) (headAt st k (span at (l .end))) (b .from) (front (isKind IE) (recs (drop (l .next) (now (file .entry))))) facts) 1 (length (fieldsOf (part (now (file .entry)) at (l .end))))) (kept count (now (area .entry)))) ⌝ }
     ensures { λ r. ⌜ r ≤ 3 * l .next ⌝ }
 {
     let end = l.end;
@@ -170,7 +170,7 @@ fn turn(
     requires { ⌜ length (now file) ≤ bytesMost ⌝ }
     requires { ⌜ Serves (now file) (now index) ⌝ }
     requires { ⌜ count ≤ 3 * at ⌝ }
-    ensures { λ r. ⌜ TurnIs (settingBy today (now (book .entry)) q (foundIn (now (ledger .entry)) live)) (now (file .entry)) at st howMany (now (area .entry)) r (now (area .exit)) ⌝ }
+    ensures { λ r. ⌜ TurnIs (settingBy today (now (book .entry)) q (foundIn (now (ledger .entry)) live)) (now (file .entry)) at st count (now (area .entry)) r (now (area .exit)) ⌝ }
 {
     let l = lines_fields::line_at(file, at);
     let end = l.end;

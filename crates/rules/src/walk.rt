@@ -88,7 +88,7 @@ fn next_first(first: Span, many: bool, k: u8, joined: bool, next: usize) -> Span
 }
 
 // How many IN lines there are so far.
-fn next_not_immunized(not_immunized: usize, k: u8) -> usize
+fn next_not_immunized(n: usize, k: u8) -> usize
     requires { ⌜ n + 1 < 2 ^ 64 ⌝ }
     ensures { λ r. ⌜ r ≡ nextNotImmunized n k ⌝ }
 {
