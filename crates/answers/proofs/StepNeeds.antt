@@ -20,7 +20,7 @@ use Rattle.book.specs.declared.Validity.{Validity as BookValidity}
 use Rattle.book.specs.declared.Validity.the-variants as the-book
 use Rattle.book.specs.Book.{Sound, validOf as bookValid}
 use Rattle.book.specs.LookUp.{withHashTable}
-use Rattle.book.proofs.StandingLaws.{valid-sound, valid-bad, book-small, guided-starts}
+use Rattle.book.proofs.ValidLaws.{valid-sound, valid-bad, book-small, guided-starts}
 use Rattle.ledger.specs.declared.Validity.{Validity as LedgerValidity}
 use Rattle.ledger.specs.declared.Validity.the-variants as the-ledger
 use Rattle.ledger.proofs.EventLaws.{among-in}
