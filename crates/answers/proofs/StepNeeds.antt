@@ -28,7 +28,7 @@ use Rattle.ledger.specs.Ledger.{ledgerOk, liveIn, validOf as ledgerValid}
 use Rattle.rules.specs.Seen.{Setting}
 use Rattle.rules.specs.Findings.{Finding, findingsOf, areaAfter}
 use Rattle.rules.specs.Firsts.{firstsOf, indexOf, over, canBuild, builtIn}
-use Rattle.rules.proofs.BlockLaws.{clean-file}
+use Rattle.rules.proofs.CleanLaws.{clean-file}
 use Rattle.rules.proofs.OverLaws.{over-taken, length-over, index-size}
 use Rattle.rules.proofs.SizeLaws.{capacity}
 use Rattle.rules.specs.declared.Judged.{Judged}

@@ -25,7 +25,7 @@ use Rattle.rules.specs.Contexts.{contextsIn}
 use Rattle.rules.specs.Findings.{areaAfter}
 use Rattle.rules.specs.Claims.{Clean, AreaHolds}
 use Rattle.rules.proofs.AreaLaws.{area-kept}
-use Rattle.rules.proofs.BlockLaws.{clean-file}
+use Rattle.rules.proofs.CleanLaws.{clean-file}
 use Rattle.answers.specs.declared.Answer.{Answer}
 use Rattle.answers.specs.declared.Answer.the-variants.{Accepted, Date, Long, Book, Ledger, Shape as BadShape, Findings, Full}
 use Rattle.answers.specs.Answers.{Lent, Outcome, fileMost, settingOf, findings, added, changed, deleted, isFull, ledgerAfter, refused, accepted, withFindings, roomed, judged, shaped, check, numbersOf, isAccepted, isFindings}

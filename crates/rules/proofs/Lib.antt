@@ -28,6 +28,7 @@ mod VaccineNeeds
 pub use Rattle.rules_definitions.proofs.FindingLaws
 pub use Rattle.rules_definitions.proofs.AreaLaws
 pub use Rattle.rules_definitions.proofs.BlockLaws
+pub use Rattle.rules_definitions.proofs.CleanLaws
 pub use Rattle.rules_walk.proofs.PassLaws
 pub use Rattle.rules_walk.proofs.SizeLaws
 pub use Rattle.rules_walk.proofs.TypeLaws
