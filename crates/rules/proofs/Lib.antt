@@ -4,7 +4,10 @@
 pub mod KeepLaws
 -- The walk over the lines
 pub mod WalkLaws
+pub mod SpanLaws
 pub mod StepLaws
+pub mod StartStateLaws
+pub mod RestLaws
 pub mod TurnLaws
 -- The rules at a field
 pub mod Collapse
@@ -15,7 +18,11 @@ pub mod SettingLaws
 -- What the functions' own needs ask
 mod EmitNeeds
 mod WalkNeeds
+mod LowestLaws
+mod AnswerNeeds
+mod CodeNeeds
 mod FieldNeeds
+mod ReasonLaws
 mod HeadNeeds
 mod LineNeeds
 mod PassNeeds
