@@ -20,7 +20,7 @@ use Rattle.book.specs.declared.Validity.{Validity as BookValidity}
 use Rattle.book.specs.declared.Validity.the-variants as the-book
 use Rattle.book.specs.Book.{Sound, validOf as bookValid}
 use Rattle.book.specs.LookUp.{withHashTable}
-use Rattle.book.proofs.StandingLaws.{valid-sound, valid-bad, book-small, guided-starts}
+use Rattle.book.proofs.ValidLaws.{valid-sound, valid-bad, book-small, guided-starts}
 use Rattle.ledger.specs.declared.Validity.{Validity as LedgerValidity}
 use Rattle.ledger.specs.declared.Validity.the-variants as the-ledger
 use Rattle.ledger.proofs.EventLaws.{among-in}
@@ -28,7 +28,7 @@ use Rattle.ledger.specs.Ledger.{ledgerOk, liveIn, validOf as ledgerValid}
 use Rattle.rules.specs.Seen.{Setting}
 use Rattle.rules.specs.Findings.{Finding, findingsOf, areaAfter}
 use Rattle.rules.specs.Firsts.{firstsOf, indexOf, over, canBuild, builtIn}
-use Rattle.rules.proofs.BlockLaws.{clean-file}
+use Rattle.rules.proofs.CleanLaws.{clean-file}
 use Rattle.rules.proofs.OverLaws.{over-taken, length-over, index-size}
 use Rattle.rules.proofs.SizeLaws.{capacity}
 use Rattle.rules.specs.declared.Judged.{Judged}

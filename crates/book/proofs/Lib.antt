@@ -10,6 +10,9 @@ pub mod SearchLaws
 pub mod HashLaws
 pub mod ForceLaws
 pub mod KindLaws
+pub mod SectionLaws
+pub mod SoughtLaws
 pub mod StandingLaws
+pub mod ValidLaws
 pub mod Examples
 pub mod OneAnswer

@@ -19,12 +19,13 @@ use Rattle.lines.specs.declared.Shape.the-variants.{Right, Fault}
 use Rattle.book.specs.Book.{bookOk}
 use Rattle.ledger.specs.Ledger.{Event, slotsIn, eventForm, ledgerOk, liveIn, eventsAfter}
 use Rattle.ledger.proofs.EventLaws.{among-in, in-among, in-after, after-in, count-after, count-every, every, up-after, Up, up-distinct, after-none}
-use Rattle.ledger.proofs.HeldLaws.{AllLong, well-formed, with-length, live-with, with-ok, live-long, live-formed, live-up}
+use Rattle.ledger.proofs.WellFormedLaws.{AllLong, well-formed, live-long, live-formed, live-up}
+use Rattle.ledger.proofs.LedgerWithLaws.{with-length, live-with, with-ok}
 use Rattle.rules.specs.Contexts.{contextsIn}
 use Rattle.rules.specs.Findings.{areaAfter}
 use Rattle.rules.specs.Claims.{Clean, AreaHolds}
 use Rattle.rules.proofs.AreaLaws.{area-kept}
-use Rattle.rules.proofs.BlockLaws.{clean-file}
+use Rattle.rules.proofs.CleanLaws.{clean-file}
 use Rattle.answers.specs.declared.Answer.{Answer}
 use Rattle.answers.specs.declared.Answer.the-variants.{Accepted, Date, Long, Book, Ledger, Shape as BadShape, Findings, Full}
 use Rattle.answers.specs.Answers.{Lent, Outcome, fileMost, settingOf, findings, added, changed, deleted, isFull, ledgerAfter, refused, accepted, withFindings, roomed, judged, shaped, check, numbersOf, isAccepted, isFindings}

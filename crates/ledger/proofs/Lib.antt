@@ -10,5 +10,7 @@ pub mod FoundLaws
 pub mod SizeLaws
 pub mod UpdateLaws
 pub mod EventLaws
+pub mod WellFormedLaws
+pub mod LedgerWithLaws
 pub mod HeldLaws
 pub mod OneAnswer

@@ -16,7 +16,7 @@ use Rattle.lines_places.proofs.Order.{over-down}
 use Rattle.lines_places.proofs.SortedLaws.{ascends-asc}
 use Rattle.ledger.specs.Ledger.{isLiveSlot, slotFollows, isAmong, putInOrder, plus, less, liveSlot}
 use Rattle.ledger.specs.Inside.{whole}
-use Rattle.ledger.proofs.HeldLaws.{live-slot}
+use Rattle.ledger.proofs.WellFormedLaws.{live-slot}
 
 -- events that ascend
 map-whole : (es : List Text) → map whole es ≡ es

@@ -30,7 +30,9 @@ use Rattle.rules.specs.Fields.{Shows, DayIs, Looks}
 use Rattle.rules.proofs.Collapse.{ie-2, ie-3, ie-4, ie-rest}
 use Rattle.rules.proofs.AtLaws.{code-two}
 use Rattle.rules.proofs.RuleLaws.{any-reverse, rule11-ie4, rule12-ie4}
-use Rattle.rules.proofs.FieldNeeds.{mandatory, kind-at, plain-either, number-at, uli-at, known-same, force-same, code-is}
+use Rattle.rules.proofs.LowestLaws.{mandatory}
+use Rattle.rules.proofs.AnswerNeeds.{kind-at, plain-either, number-at, uli-at}
+use Rattle.rules.proofs.CodeNeeds.{known-same, force-same, code-is}
 
 -- RULE 11
 

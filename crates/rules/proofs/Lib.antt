@@ -4,7 +4,10 @@
 pub mod KeepLaws
 -- The walk over the lines
 pub mod WalkLaws
+pub mod SpanLaws
 pub mod StepLaws
+pub mod StartStateLaws
+pub mod RestLaws
 pub mod TurnLaws
 -- The rules at a field
 pub mod Collapse
@@ -15,7 +18,11 @@ pub mod SettingLaws
 -- What the functions' own needs ask
 mod EmitNeeds
 mod WalkNeeds
+mod LowestLaws
+mod AnswerNeeds
+mod CodeNeeds
 mod FieldNeeds
+mod ReasonLaws
 mod HeadNeeds
 mod LineNeeds
 mod PassNeeds
@@ -28,6 +35,7 @@ mod VaccineNeeds
 pub use Rattle.rules_definitions.proofs.FindingLaws
 pub use Rattle.rules_definitions.proofs.AreaLaws
 pub use Rattle.rules_definitions.proofs.BlockLaws
+pub use Rattle.rules_definitions.proofs.CleanLaws
 pub use Rattle.rules_walk.proofs.PassLaws
 pub use Rattle.rules_walk.proofs.SizeLaws
 pub use Rattle.rules_walk.proofs.TypeLaws

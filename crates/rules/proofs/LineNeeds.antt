@@ -28,7 +28,7 @@ use Rattle.rules.specs.Inside.{kept, keep, listed}
 use Rattle.rules_fields.specs.Fields.{broken}
 use Rattle.rules.specs.Fields.{laterAt, judgedFields, Shows, DayIs, Looks, Blocked, Told}
 use Rattle.rules.proofs.Collapse.{other-rest}
-use Rattle.rules.proofs.FieldNeeds.{plain-either}
+use Rattle.rules.proofs.AnswerNeeds.{plain-either}
 use Rattle.rules.proofs.TurnLaws.{line-on}
 use Rattle.rules.proofs.KeepLaws.{keep-append}
 use Rattle.rules.proofs.BlankLaws.{ii-blank, blank-run, person-run}

@@ -44,7 +44,7 @@ use Rattle.rules.specs.Inside.{kept, keep}
 use Rattle.rules.specs.Walk.{partOf, span, Holds, OwnIs, OwnEnd, Ready, PartsIn, headAt, dayBy, seenBy, seenWith, factsBy}
 use Rattle.rules.specs.Fields.{dayFrom, dayIn, headDay, DayIs, Looks, Told}
 use Rattle.rules.proofs.StepLaws.{holds-step}
-use Rattle.rules.proofs.FieldNeeds.{value-read}
+use Rattle.rules.proofs.LowestLaws.{value-read}
 
 -- event_of
 pub event-is : (line u v w a b c key : Text) → u ≡ drop (fieldsLen 2 line) line → v ≡ drop (fieldsLen 3 u) u → w ≡ drop (fieldsLen 2 v) v

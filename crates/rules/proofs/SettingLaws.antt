@@ -21,7 +21,8 @@ use Rattle.book.specs.LookUp.{soughtIn, standingAt, foundIn as foundWith, stand
 use Rattle.book.proofs.WidthLaws.{code-parts, body-parts}
 use Rattle.book.proofs.EntryLaws.{form-says}
 use Rattle.book.proofs.KindLaws.{none-sound}
-use Rattle.book.proofs.StandingLaws.{book-sound, saysInForce, look-in-force, absent-known, found-known}
+use Rattle.book.proofs.SectionLaws.{book-sound}
+use Rattle.book.proofs.StandingLaws.{saysInForce, look-in-force, absent-known, found-known}
 use Rattle.ledger.specs.Ledger.{Event, ledgerOk, liveIn, isAmong, foundIn}
 use Rattle.ledger.proofs.FoundLaws.{found-live}
 use Rattle.rules_fields.specs.Look.{foundBy, isThere, isInForceIn, knownBy, forceBy}

@@ -1,59 +1,35 @@
--- One turn of the walk: the state after a line shows the next one, and the findings still to come lose the line's.
+-- One turn of the walk: the state after a line shows the next one.
 -- Assumes nothing.
 use mathlib.Core.Path.{_≡_, refl, sym, ap, _∙_}
 use mathlib.Core.Bool.{Bool, true, false, cond, _&&_, _||_}
 use mathlib.Core.List.{List, [], _∷_, _++_, reverse, reverse-append, append-nil}
 use Prim.Native.Nat.{ℕ, suc, _+_, _≤_, _<_}
-use native.Mathlib.Numerals.{add-one}
 use native.Mathlib.Omega.{arith}
 use borrow.Author.Tests.{eqb-true}
 use lib.Dec.{eqb}
-use lib.ListN.{length, take, drop}
-use Rattle.house.specs.Text.{Text, run, those, howMany, front, isEmpty, within, joined}
+use lib.ListN.{length, take}
+use Rattle.house.specs.Text.{Text, those, howMany, front, isEmpty, within}
 use Rattle.house.proofs.Small.{both, clash}
 use Rattle.lines_fields.specs.declared.LineAt.{LineAt}
-use Rattle.lines_fields.specs.Lines.{LineIs, linesOf, fieldsOf}
+use Rattle.lines_fields.specs.Lines.{LineIs}
 use Rattle.lines.specs.Records.{Rec, IP, II, IE, IN, IA, isKind, recordOf, recOf, recs}
 use Rattle.lines.specs.Inside.{whole}
 use Rattle.lines_fields.specs.Inside.{part}
 use Rattle.lines_fields.proofs.LineLaws.{at-past}
-use Rattle.lines.proofs.PartLaws.{recs-past, recs-on, ended-inside, whole-step}
+use Rattle.lines.proofs.PartLaws.{ended-inside, whole-step}
 use Rattle.ledger.proofs.AmongLaws.{those-append}
-use Rattle.rules_definitions.specs.Forms.{fieldIn, table, isJudged, isOptional, isMissing, isSound}
-use Rattle.rules_definitions.specs.Contexts.{contextsOf, contextsIn, noRec, nearest, isNumbered}
+use Rattle.rules_definitions.specs.Forms.{isSound}
+use Rattle.rules_definitions.specs.Contexts.{nearest, isNumbered}
 use Rattle.rules_definitions.specs.Blocks.{isInBlock, joins, nearestOf, blockIn, openAfter, hasSecond, firstOpen, beforeOpen}
-use Rattle.rules_definitions.specs.Seen.{Setting}
-use Rattle.rules_definitions.specs.Findings.{lineFindings, findingsOf}
 use Rattle.rules.specs.declared.Span.{Span}
 use Rattle.rules.specs.declared.State.{State}
 use Rattle.rules.specs.declared.BlockAt.{BlockAt}
 use Rattle.rules_fields.specs.declared.Day.{Day}
-use Rattle.rules_forms.specs.TextLeaves.{valueOf}
 use Rattle.rules_plain.specs.PlainFields.{bornOf}
 use Rattle.rules.specs.Fields.{dayFrom}
-use Rattle.rules.specs.Walk.{span, linesBefore, SpanIs, LinesAre, Holds, noDay, startState, BlockIs, dayBy, nextPlace, nextOf, nextBorn, nextDay, nextKnown, nextSince, nextLast, nextRun, nextMany, nextFirst, nextNotImmunized, advanced, restOf}
+use Rattle.rules.specs.Walk.{span, linesBefore, SpanIs, LinesAre, Holds, BlockIs, dayBy, nextPlace, nextOf, nextBorn, nextDay, nextKnown, nextSince, nextLast, nextRun, nextMany, nextFirst, nextNotImmunized, advanced}
 use Rattle.rules.proofs.WalkLaws.{no-recs, kind-is, back-step, recs-next, before-step, joins-open, inb-is, joined-is, from-is, block-is}
-
--- PARTS
-
-no-span : (file : Text) (at : ℕ) → SpanIs file at (span 0 0) noRec
-unfolding noRec
-no-span file at = record { is = refl; from = omega arith; upto = omega arith }
-
-span-on : (file : Text) (at next : ℕ) (p : Span) (l : Rec) → at ≤ next → SpanIs file at p l → SpanIs file next p l
-span-on file at next p l h s = record { is = s .is; from = s .from; upto = omega (arith, s .upto) }
-
-span-by : (file : Text) (at : ℕ) (t : Bool) (p q : Span) (l m : Rec) → SpanIs file at p l → SpanIs file at q m → SpanIs file at (cond t p q) (cond t l m)
-span-by file at true p q l m s r = s
-span-by file at false p q l m s r = r
-
-no-lines : (file : Text) (at : ℕ) → LinesAre file at (span at at) []
-no-lines file at = record { are = rw (no-recs file at); from = omega arith; upto = omega arith }
-
-lines-on : (file : Text) (at next : ℕ) (p : Span) (ls : List Rec) → at ≤ next → LinesAre file at p ls → LinesAre file next p ls
-lines-on file at next p ls h s = record { are = s .are; from = s .from; upto = omega (arith, s .upto) }
-
--- THE STEP
+use Rattle.rules.proofs.SpanLaws.{no-span, span-on, span-by, no-lines, lines-on}
 
 module _ (file : Text) (at : ℕ) (st : State) (h : Holds file at st) (q : LineAt) (e : LineIs file at q) (less : at < length file)
     (k : ℕ) (ki : k ≡ recordOf (part file at (q .end))) (b : BlockAt) (bi : BlockIs file at st (part file at (q .end)) b)
@@ -298,62 +274,3 @@ module _ (file : Text) (at : ℕ) (st : State) (h : Holds file at st) (q : LineA
         place-small = grows (within IP IA k) (st .place) 1 (h .place-small);
         ins-small = omega (arith, grows (eqb k IN) (st .«not_immunized») 0 (omega (arith, h .ins-small)));
       }
-
--- THE START
-
--- a line that is not there gives no day
-no-born : 0 ≡ bornOf noRec
-unfolding noRec recOf fieldIn fieldsOf bornOf isSound isMissing isJudged isOptional table
-no-born = refl
-
-no-ii-day : noDay ≡ dayFrom II noRec 6
-unfolding noRec recOf fieldIn fieldsOf isSound isMissing isJudged isOptional table valueOf run
-no-ii-day = refl
-
-no-in-day : noDay ≡ dayFrom IN noRec 5
-unfolding noRec recOf fieldIn fieldsOf isSound isMissing isJudged isOptional table valueOf run
-no-in-day = refl
-
-pub holds-start : (file : Text) → Holds file 0 startState
-unfolding linesBefore recs linesOf whole noRec
-holds-start file =
-    record {
-      ended = λ m. refl;
-      place-is = refl;
-      ip-is = no-span file 0;
-      born-is = no-born;
-      ii-is = no-span file 0;
-      ii-day-is = no-ii-day;
-      in-is = no-span file 0;
-      in-day-is = no-in-day;
-      since-is = no-lines file 0;
-      last-is = no-span file 0;
-      run-is = refl;
-      run-in = omega arith;
-      run-ended = λ m. refl;
-      opened = λ z. clash (cc);
-      many-is = refl;
-      first-is = no-lines file 0;
-      first-at = λ z. refl;
-      ins-is = refl;
-      n-small = omega arith;
-      place-small = omega arith;
-      ins-small = omega arith;
-    }
-
--- THE FINDINGS STILL TO COME
-
-pub rest-start : (s : Setting) (file : Text) → findingsOf s file ≡ restOf s file 0 1
-unfolding findingsOf contextsIn contextsOf restOf linesBefore recs linesOf
-rest-start s file = refl
-
-pub rest-end : (s : Setting) (file : Text) (at n : ℕ) → length file ≤ at → restOf s file at n ≡ []
-unfolding restOf
-rest-end s file at n l = rw (recs-past file at l)
-
--- those of the line, and those from the next on
-pub rest-step : (s : Setting) (file : Text) (at : ℕ) (q : LineAt) → LineIs file at q → at < length file → whole (take at file) ≡ true → (n : ℕ)
-    → restOf s file at n
-    ≡ lineFindings s (record { number = n; before = linesBefore file at; line = recOf (part file at (q .end)); after = recs (drop (q .next) file) }) ++ restOf s file (q .next) (n + 1)
-unfolding restOf
-rest-step s file at q e l w n = rw (recs-on file at q e l, before-step file at q e l w, add-one)

@@ -27,7 +27,7 @@ use Rattle.rules.specs.Inside.{Kept, kept, keep, listed}
 use Rattle.rules.specs.Walk.{span, linesBefore, Holds, BlockIs, headAt, seenBy, seenOf, restOf}
 use Rattle.rules.proofs.KeepLaws.{keep-append}
 use Rattle.rules.proofs.WalkLaws.{seen-is}
-use Rattle.rules.proofs.StepLaws.{rest-step}
+use Rattle.rules.proofs.RestLaws.{rest-step}
 
 -- FIELD BY FIELD
 

@@ -44,7 +44,9 @@ use Rattle.rules.proofs.KeepLaws.{keep-all}
 use Rattle.rules.proofs.RuleLaws.{count-reverse}
 use Rattle.rules.proofs.WalkLaws.{inb-is, from-is, repeated-is}
 use Rattle.lines_fields.proofs.LineLaws.{at-past, at-text}
-use Rattle.rules.proofs.StepLaws.{holds-start, holds-step, rest-start, rest-end}
+use Rattle.rules.proofs.StepLaws.{holds-step}
+use Rattle.rules.proofs.StartStateLaws.{holds-start}
+use Rattle.rules.proofs.RestLaws.{rest-start, rest-end}
 use Rattle.rules.proofs.TurnLaws.{fields-free, turn-goes}
 
 -- turn

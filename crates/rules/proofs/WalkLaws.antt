@@ -24,7 +24,7 @@ use Rattle.rules_definitions.specs.Forms.{fieldIn, text}
 use Rattle.rules_definitions.specs.Contexts.{noRec, nearest, headOf}
 use Rattle.rules_definitions.specs.Blocks.{isInBlock, sameEvent, joins, eventOf, nearestOf, blockIn, openAfter, beforeOpen, beforeBlock, isRepeated}
 use Rattle.rules_definitions.specs.Seen.{Setting, seenAt}
-use Rattle.rules_definitions.proofs.BlockLaws.{named}
+use Rattle.rules_definitions.proofs.EventLaws.{named}
 use Rattle.rules.specs.declared.Span.{Span}
 use Rattle.rules.specs.declared.State.{State}
 use Rattle.rules.specs.declared.BlockAt.{BlockAt}

@@ -1,4 +1,6 @@
 pub mod FindingLaws
 pub mod AreaLaws
+pub mod EventLaws
 pub mod BlockLaws
+pub mod CleanLaws
 pub mod EdgesLaws

@@ -6,7 +6,9 @@ pub mod FieldLaws
 pub mod SoundLaws
 -- What the functions' own needs ask
 mod ClassNeeds
-mod TextNeeds
+mod ValueNeeds
+mod FormNeeds
+mod DosageNeeds
 mod FieldNeeds
 -- No second answer
 mod OneClassAnswer

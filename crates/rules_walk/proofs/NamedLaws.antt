@@ -24,7 +24,7 @@ use Rattle.ledger.specs.Ledger.{Event}
 use Rattle.rules_definitions.specs.Forms.{fieldIn, text}
 use Rattle.rules_definitions.specs.Contexts.{noRec}
 use Rattle.rules_definitions.specs.Blocks.{isInBlock, eventOf, sameEvent, joins, nearestOf, blockIn, openAfter, joinsOpen, begins, beforeOpen, beforeBlock, isRepeated}
-use Rattle.rules_definitions.proofs.BlockLaws.{named, uli-length, date-length, code-says}
+use Rattle.rules_definitions.proofs.EventLaws.{named, uli-length, date-length, code-says}
 use Rattle.rules_walk.specs.Firsts.{startAfter, namedBefore}
 use Rattle.rules_walk.specs.Inside.{recAt, Passed, firstsIn}
 use Rattle.rules_walk.proofs.PassLaws.{firsts-split, firsts-behind, firsts-ahead}

@@ -20,7 +20,7 @@ use Rattle.lines.proofs.ShapeLaws.{right-line, right-start}
 use Rattle.rules_definitions.specs.Forms.{fieldIn, text}
 use Rattle.rules_definitions.specs.Contexts.{Context, contextsFrom, contextsOf, contextsIn}
 use Rattle.rules_definitions.specs.Blocks.{isInBlock, begins}
-use Rattle.rules_definitions.proofs.BlockLaws.{named}
+use Rattle.rules_definitions.proofs.EventLaws.{named}
 use Rattle.rules_walk.specs.Firsts.{isFirst, startOf, firstsOf}
 use Rattle.rules_walk.proofs.PassLaws.{by-lines, recs-first}
 use Rattle.rules_walk.proofs.NamedLaws.{uli-wide, date-wide, code-wide, is-II, begun}

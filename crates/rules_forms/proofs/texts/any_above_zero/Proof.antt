@@ -1,6 +1,6 @@
 -- `rules_forms::texts::any_above_zero` meets its contract.
 -- Assumes nothing.
-use Rattle.rules_forms.proofs.TextNeeds.{for-any}
+use Rattle.rules_forms.proofs.DosageNeeds.{for-any}
 use mathlib.Core.Path.{_≡_}
 use Prim.Native.Nat.{_-_}
 use lib.ListN.{length, drop}

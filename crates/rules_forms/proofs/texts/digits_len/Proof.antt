@@ -1,7 +1,7 @@
 -- `rules_forms::texts::digits_len` meets its contract.
 -- Assumes nothing.
-use Rattle.rules_forms.proofs.TextNeeds.{for-digits-len}
-use Rattle.rules_forms.proofs.TextNeeds.{for-digits-on}
+use Rattle.rules_forms.proofs.DosageNeeds.{for-digits-len}
+use Rattle.rules_forms.proofs.DosageNeeds.{for-digits-on}
 use Prim.Native.Nat.{_+_, _-_, _≤_}
 use mathlib.Core.Path.{_≡_}
 use lib.ListN.{length, drop}

@@ -1,6 +1,6 @@
 -- `rules_forms::texts::is_above_zero` meets its contract.
 -- Assumes nothing.
-use Rattle.rules_forms.proofs.TextNeeds.{for-above}
+use Rattle.rules_forms.proofs.DosageNeeds.{for-above}
 use Rattle.rules_forms.proofs.texts.is_above_zero.Statement.{statement}
 use Rattle.rules_forms.proofs.texts.is_above_zero.Tie as tie
 

@@ -1,6 +1,6 @@
 -- `rules_forms::texts::is_date` meets its contract.
 -- Assumes nothing.
-use Rattle.rules_forms.proofs.TextNeeds.{for-is-date}
+use Rattle.rules_forms.proofs.FormNeeds.{for-is-date}
 use Rattle.rules_forms.proofs.texts.is_date.Statement.{statement}
 use Rattle.rules_forms.proofs.texts.is_date.Tie as tie
 

@@ -1,6 +1,6 @@
 -- `rules_forms::texts::is_dosage` meets its contract.
 -- Assumes nothing.
-use Rattle.rules_forms.proofs.TextNeeds.{for-dosage}
+use Rattle.rules_forms.proofs.DosageNeeds.{for-dosage}
 use Rattle.rules_forms.proofs.texts.is_dosage.Statement.{statement}
 use Rattle.rules_forms.proofs.texts.is_dosage.Tie as tie
 

@@ -1,6 +1,6 @@
 -- `rules_forms::texts::is_fraction` meets its contract.
 -- Assumes nothing.
-use Rattle.rules_forms.proofs.TextNeeds.{for-fraction}
+use Rattle.rules_forms.proofs.DosageNeeds.{for-fraction}
 use Rattle.rules_forms.proofs.texts.is_fraction.Statement.{statement}
 use Rattle.rules_forms.proofs.texts.is_fraction.Tie as tie
 

@@ -1,6 +1,6 @@
 -- `rules_forms::texts::is_reason` meets its contract.
 -- Assumes nothing.
-use Rattle.rules_forms.proofs.TextNeeds.{for-reason}
+use Rattle.rules_forms.proofs.FormNeeds.{for-reason}
 use Rattle.rules_forms.proofs.texts.is_reason.Statement.{statement}
 use Rattle.rules_forms.proofs.texts.is_reason.Tie as tie
 

@@ -1,6 +1,6 @@
 -- `rules_forms::texts::is_type` meets its contract.
 -- Assumes nothing.
-use Rattle.rules_forms.proofs.TextNeeds.{for-type}
+use Rattle.rules_forms.proofs.FormNeeds.{for-type}
 use Rattle.rules_forms.proofs.texts.is_type.Statement.{statement}
 use Rattle.rules_forms.proofs.texts.is_type.Tie as tie
 

@@ -1,6 +1,6 @@
 -- `rules_forms::texts::number_of` meets its contract.
 -- Assumes nothing.
-use Rattle.rules_forms.proofs.TextNeeds.{for-number}
+use Rattle.rules_forms.proofs.ValueNeeds.{for-number}
 use Prim.Native.Nat.{_-_, _≤_, _<_, _^_}
 use mathlib.Core.Path.{_≡_}
 use mathlib.Core.Bool.{true}

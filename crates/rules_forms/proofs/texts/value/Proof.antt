@@ -1,6 +1,6 @@
 -- `rules_forms::texts::value` meets its contract.
 -- Assumes nothing.
-use Rattle.rules_forms.proofs.TextNeeds.{for-value}
+use Rattle.rules_forms.proofs.ValueNeeds.{for-value}
 use Rattle.rules_forms.proofs.texts.value.Statement.{statement}
 use Rattle.rules_forms.proofs.texts.value.Tie as tie
 
