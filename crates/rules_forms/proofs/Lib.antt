@@ -7,6 +7,7 @@ pub mod SoundLaws
 -- What the functions' own needs ask
 mod ClassNeeds
 mod TextNeeds
+mod JudgedNeeds
 mod FieldNeeds
 -- No second answer
 mod OneClassAnswer
