@@ -1,22 +1,21 @@
 -- What each need of the functions on a line's fields asks.
 -- Assumes nothing.
 use mathlib.Core.Path.{_≡_, refl, sym, _∙_}
-use mathlib.Core.Bool.{Bool, true, false, not, cond, _&&_, _||_, and-false}
-use mathlib.Core.List.{List, [], _∷_}
-use Prim.Native.Nat.{ℕ, zero, suc, _+_, _-_, _≤_, _<_}
+use mathlib.Core.Bool.{Bool, true, false, not, cond, _&&_, and-false}
+use mathlib.Core.List.{[], _∷_}
+use Prim.Native.Nat.{ℕ, suc, _+_, _-_, _≤_, _<_}
 use native.Mathlib.Omega.{arith}
 use borrow.Author.Needs.{needs}
-use borrow.Author.Tests.{eq-eqb, ne-eqb, le-leb}
+use borrow.Author.Tests.{eq-eqb, ne-eqb}
 use lib.Dec.{eqb}
 use lib.ListN.{length, take, drop}
-use Rattle.house.specs.Text.{Text, any, within, isEmpty, same}
-use Rattle.house.proofs.Small.{Three, lt, eq, gt, three}
+use Rattle.house.specs.Text.{Text, isEmpty, same}
 use Rattle.house.proofs.Suffix.{rest}
 use Rattle.lines_fields.specs.Lines.{fieldsOf, fieldOf, fieldsLen}
-use Rattle.lines.specs.Records.{Rec, recOf}
+use Rattle.lines.specs.Records.{Rec, II, recOf}
 use Rattle.lines_fields.proofs.FieldLaws.{fields-le}
 use Rattle.rules_definitions.specs.Forms.{anything, table, formOf, isJudged, isRelaxed, relaxedBy, isSound, isGiven}
-use Rattle.rules_forms.proofs.ClassLaws.{within-yes, within-low, within-high}
+use Rattle.rules_forms.proofs.ClassLaws.{within-low, within-high}
 use Rattle.rules_forms.specs.FieldLeaves.{givenElsewhere, optionalIn, lowestIn, soundAs}
 use Rattle.rules_forms.proofs.FieldLaws.{text-is, field-is, relaxed-is, empty-true, empty-false, lowest-either, lowest-filled, sound-as, field-behind}
 use Rattle.rules_forms.proofs.SoundLaws.{given-by}
@@ -36,90 +35,6 @@ module _ (k f : ℕ) (t : Text) where
       simp (ne-eqb k 2 a, ne-eqb k 3 b, ne-eqb k 4 c, ne-eqb k 5 d, ne-eqb k 6 e, ne-eqb k 7 g, ne-eqb k 8 h) (same-either (eqb k 1 && eqb f 2))
 
 pub ruleset for-form-of = (needs, form-kind, form-none)
-
--- is_within
-module _ (lo hi f : ℕ) where
-  pub lies-low : f < lo → false ≡ within lo hi f
-  lies-low h = sym (within-low lo hi f h)
-
-  pub lies-high : hi < f → false ≡ within lo hi f
-  lies-high h = sym (within-high lo hi f h)
-
-  pub lies-in : lo ≤ f → f ≤ hi → true ≡ within lo hi f
-  lies-in h k = sym (within-yes lo hi f h k)
-
-pub ruleset for-is-within = (needs, lies-low, lies-high, lies-in)
-
--- is_judged: the fields of a kind that are judged follow on each other
-abbrev upFrom : ℕ → ℕ → List ℕ
-upFrom lo zero = []
-upFrom lo (suc n) = lo ∷ upFrom (suc lo) n
-
-none-in : (lo hi f : ℕ) → hi < lo → within lo hi f ≡ false
-none-in lo hi f h = go (three f lo)
-  where
-    go : Three f lo → within lo hi f ≡ false
-    go (lt k) = within-low lo hi f k
-    go (eq k) = within-high lo hi f (omega arith)
-    go (gt k) = within-high lo hi f (omega arith)
-
-one-of-run : (n lo hi f : ℕ) → lo + n ≡ suc hi → any (eqb f) (upFrom lo n) ≡ within lo hi f
-one-of-run zero lo hi f e = sym (none-in lo hi f (omega arith))
-one-of-run (suc n) lo hi f e = go (three f lo) (one-of-run n (suc lo) hi f (omega arith))
-  where
-    go : Three f lo → any (eqb f) (upFrom (suc lo) n) ≡ within (suc lo) hi f → eqb f lo || any (eqb f) (upFrom (suc lo) n) ≡ within lo hi f
-    go (lt k) r = rw (ne-eqb f lo (λ z. omega arith), r, within-low (suc lo) hi f (omega arith), within-low lo hi f k)
-    go (eq k) r = rw (eq-eqb f lo k, within-yes lo hi f (omega arith) (omega arith))
-    go (gt k) r = rw (ne-eqb f lo (λ z. omega arith), r, le-leb (suc lo) f k, le-leb lo f (omega arith))
-
-module _ (k f : ℕ) (x : Bool) where
-  pub judged-iv : k ≡ 1 → x ≡ within 2 2 f → x ≡ isJudged k f
-  unfolding isJudged table
-  judged-iv e h = rw e (h ∙ sym (one-of-run 1 2 2 f refl))
-
-  pub judged-ih : k ≡ 2 → x ≡ within 2 3 f → x ≡ isJudged k f
-  unfolding isJudged table
-  judged-ih e h = rw e (h ∙ sym (one-of-run 2 2 3 f refl))
-
-  pub judged-ie : k ≡ 5 → x ≡ within 2 5 f → x ≡ isJudged k f
-  unfolding isJudged table
-  judged-ie e h = rw e (h ∙ sym (one-of-run 4 2 5 f refl))
-
-  pub judged-in : k ≡ 6 → x ≡ within 2 8 f → x ≡ isJudged k f
-  unfolding isJudged table
-  judged-in e h = rw e (h ∙ sym (one-of-run 7 2 8 f refl))
-
-  pub judged-ia : k ≡ 7 → x ≡ within 2 4 f → x ≡ isJudged k f
-  unfolding isJudged table
-  judged-ia e h = rw e (h ∙ sym (one-of-run 3 2 4 f refl))
-
-  pub judged-if : k ≡ 8 → x ≡ within 2 3 f → x ≡ isJudged k f
-  unfolding isJudged table
-  judged-if e h = rw e (h ∙ sym (one-of-run 2 2 3 f refl))
-
-  pub judged-ip : k ≡ 3 → (f ≡ 25 → ⊥) → x ≡ within 2 3 f → x ≡ isJudged k f
-  unfolding isJudged table
-  judged-ip e n h = rw (e, ne-eqb f 25 n) (h ∙ sym (one-of-run 2 2 3 f refl))
-
-  pub judged-ii : k ≡ 4 → (f ≡ 7 → ⊥) → x ≡ within 2 15 f → x ≡ isJudged k f
-  unfolding isJudged table
-  judged-ii e n h = rw e (h ∙ sym (rw (ne-eqb f 7 n) at (one-of-run 14 2 15 f refl)))
-
-module _ (k f : ℕ) where
-  pub judged-25 : k ≡ 3 → f ≡ 25 → true ≡ isJudged k f
-  unfolding isJudged table
-  judged-25 e h = rw (e, h)
-
-  pub judged-7 : k ≡ 4 → f ≡ 7 → false ≡ isJudged k f
-  unfolding isJudged table
-  judged-7 e h = rw (e, h)
-
-  pub judged-none : (k ≡ 1 → ⊥) → (k ≡ 3 → ⊥) → (k ≡ 4 → ⊥) → (k ≡ 2 → ⊥) → (k ≡ 5 → ⊥) → (k ≡ 6 → ⊥) → (k ≡ 7 → ⊥) → (k ≡ 8 → ⊥) → false ≡ isJudged k f
-  unfolding isJudged table
-  judged-none a c d b e g h i =
-      simp (ne-eqb k 1 a, ne-eqb k 2 b, ne-eqb k 3 c, ne-eqb k 4 d, ne-eqb k 5 e, ne-eqb k 6 g, ne-eqb k 7 h, ne-eqb k 8 i)
-
-pub ruleset for-is-judged = (needs, judged-iv, judged-ih, judged-ie, judged-in, judged-ia, judged-if, judged-ip, judged-ii, judged-25, judged-7, judged-none)
 
 -- after: a text's rest, and its fields
 module _ (t : Text) (f s : ℕ) (e : s ≡ fieldsLen f t) where
@@ -178,39 +93,6 @@ module _ (l v : Text) (a : v ≡ drop (fieldsLen 4 l) l) (t : Text) (d : t ≡ f
 
 pub ruleset for-relaxed = (needs, relaxed-h, relaxed-20, relaxed-18)
 
--- is_optional
-or-false : (b : Bool) → b ≡ b || false
-or-false true = refl
-or-false false = refl
-
-module _ (k : ℕ) (relaxed : Bool) (f : ℕ) where
-  pub optional-in : k ≡ 6 → eqb f 8 ≡ optionalIn k relaxed f
-  unfolding optionalIn
-  optional-in e = rw e (or-false (eqb f 8))
-
-  pub optional-none : (k ≡ 6 → ⊥) → (k ≡ 4 → ⊥) → false ≡ optionalIn k relaxed f
-  unfolding optionalIn
-  optional-none m n = simp (ne-eqb k 6 m, ne-eqb k 4 n)
-
-  module _ (e : k ≡ 4) where
-    pub optional-5 : f ≡ 5 → true ≡ optionalIn k relaxed f
-    unfolding optionalIn
-    optional-5 h = rw (e, h)
-
-    pub optional-9 : 9 ≤ f → f < 16 → relaxed ≡ optionalIn k relaxed f
-    unfolding optionalIn
-    optional-9 h g = rw (e, ne-eqb f 5 (λ z. omega arith), within-yes 9 15 f h (omega arith))
-
-    pub optional-low : (f ≡ 5 → ⊥) → f < 9 → false ≡ optionalIn k relaxed f
-    unfolding optionalIn
-    optional-low n h = rw (e, ne-eqb f 5 n, within-low 9 15 f h)
-
-    pub optional-high : 16 ≤ f → false ≡ optionalIn k relaxed f
-    unfolding optionalIn
-    optional-high h = rw (e, ne-eqb f 5 (λ z. omega arith), within-high 9 15 f (omega arith))
-
-pub ruleset for-optional = (needs, optional-in, optional-none, optional-5, optional-9, optional-low, optional-high)
-
 -- basic_rule
 module _ (k : ℕ) (relaxed : Bool) (f : ℕ) (t : Text) where
   module _ (n : length t ≡ 0 → ⊥) (y : Bool) (p : y ≡ formOf k f t) where
@@ -253,13 +135,16 @@ module _ (k : ℕ) (l : Text) (f : ℕ) (t : Text) where
   pub asked-kind : (k ≡ 4 → ⊥) → lowestIn k false f t 0 ≡ lowestIn k (isRelaxed (recOf l)) f t 0
   asked-kind n = lowest-either k f t 0 false (isRelaxed (recOf l)) (rw (ne-eqb k 4 n))
 
-  pub asked-field : (x : Bool) → k ≡ 4 → x ≡ within 9 15 f → x ≡ false → lowestIn k false f t 0 ≡ lowestIn k (isRelaxed (recOf l)) f t 0
-  asked-field x e d h = lowest-either k f t 0 false (isRelaxed (recOf l)) (rw (eq-eqb k 4 e, ← d) h)
+  pub asked-low : k ≡ II → f < 9 → lowestIn k false f t 0 ≡ lowestIn k (isRelaxed (recOf l)) f t 0
+  asked-low e h = lowest-either k f t 0 false (isRelaxed (recOf l)) (rw (eq-eqb k II e) (within-low 9 15 f h))
+
+  pub asked-high : k ≡ II → 16 ≤ f → lowestIn k false f t 0 ≡ lowestIn k (isRelaxed (recOf l)) f t 0
+  asked-high e h = lowest-either k f t 0 false (isRelaxed (recOf l)) (rw (eq-eqb k II e) (within-high 9 15 f (omega arith)))
 
   pub asked-line : (x : Bool) → x ≡ relaxedBy (fieldsOf l) → lowestIn k x f t 0 ≡ lowestIn k (isRelaxed (recOf l)) f t 0
   asked-line x e = rw (relaxed-is l, ← e)
 
-pub ruleset for-relaxed-at = (needs, asked-filled, asked-kind, asked-field, asked-line)
+pub ruleset for-relaxed-at = (needs, asked-filled, asked-kind, asked-low, asked-high, asked-line)
 
 -- sound_text, is_sound
 pub sound-rule : (k : ℕ) (l : Rec) (f : ℕ) (t : Text) (x : Bool) (r : ℕ)

@@ -9,6 +9,8 @@ mod ClassNeeds
 mod ValueNeeds
 mod FormNeeds
 mod DosageNeeds
+mod TextNeeds
+mod JudgedNeeds
 mod FieldNeeds
 -- No second answer
 mod OneClassAnswer

@@ -10,16 +10,16 @@ use lines::IP;
 use lines::IV;
 ghost use mathlib.Core.Bool.{_&&_};
 ghost use mathlib.Core.Path.{_≡_};
-ghost use Rattle.house.specs.Text.{within, isEmpty};
+ghost use Rattle.house.specs.Text.{isEmpty};
 ghost use lib.ListN.{drop};
 ghost use Rattle.lines_fields.specs.Lines.{fieldsOf, fieldOf, fieldsLen};
-ghost use Rattle.lines.specs.Records.{recOf};
+ghost use Rattle.lines.specs.Records.{IH, IP, II, IE, IN, IA, IF, recOf};
 ghost use Rattle.rules_definitions.specs.Forms.{formOf, isJudged, relaxedBy, isRelaxed, isSound, isGiven};
 ghost use Rattle.rules_forms.specs.FieldLeaves.{givenElsewhere, optionalIn, lowestIn, soundAs};
 
 // The form of field f of an IH.
 fn form_ih(f: usize, t: &[u8]) -> bool
-    ensures { λ r. ⌜ r ≡ formOf 2 f (now (t .entry)) ⌝ }
+    ensures { λ r. ⌜ r ≡ formOf IH f (now (t .entry)) ⌝ }
 {
     match f {
         2 => is_prefix(t),
@@ -30,7 +30,7 @@ fn form_ih(f: usize, t: &[u8]) -> bool
 
 // The form of field f of an IP.
 fn form_ip(f: usize, t: &[u8]) -> bool
-    ensures { λ r. ⌜ r ≡ formOf 3 f (now (t .entry)) ⌝ }
+    ensures { λ r. ⌜ r ≡ formOf IP f (now (t .entry)) ⌝ }
 {
     match f {
         2 => is_number(t),
@@ -42,7 +42,7 @@ fn form_ip(f: usize, t: &[u8]) -> bool
 
 // The form of field f of an II.
 fn form_ii(f: usize, t: &[u8]) -> bool
-    ensures { λ r. ⌜ r ≡ formOf 4 f (now (t .entry)) ⌝ }
+    ensures { λ r. ⌜ r ≡ formOf II f (now (t .entry)) ⌝ }
 {
     match f {
         2 => is_number(t),
@@ -64,7 +64,7 @@ fn form_ii(f: usize, t: &[u8]) -> bool
 
 // The form of field f of an IE.
 fn form_ie(f: usize, t: &[u8]) -> bool
-    ensures { λ r. ⌜ r ≡ formOf 5 f (now (t .entry)) ⌝ }
+    ensures { λ r. ⌜ r ≡ formOf IE f (now (t .entry)) ⌝ }
 {
     match f {
         2 => is_number(t),
@@ -77,7 +77,7 @@ fn form_ie(f: usize, t: &[u8]) -> bool
 
 // The form of field f of an IN.
 fn form_in(f: usize, t: &[u8]) -> bool
-    ensures { λ r. ⌜ r ≡ formOf 6 f (now (t .entry)) ⌝ }
+    ensures { λ r. ⌜ r ≡ formOf IN f (now (t .entry)) ⌝ }
 {
     match f {
         2 => is_number(t),
@@ -93,7 +93,7 @@ fn form_in(f: usize, t: &[u8]) -> bool
 
 // The form of field f of an IA.
 fn form_ia(f: usize, t: &[u8]) -> bool
-    ensures { λ r. ⌜ r ≡ formOf 7 f (now (t .entry)) ⌝ }
+    ensures { λ r. ⌜ r ≡ formOf IA f (now (t .entry)) ⌝ }
 {
     match f {
         2 => is_number(t),
@@ -105,7 +105,7 @@ fn form_ia(f: usize, t: &[u8]) -> bool
 
 // The form of field f of an IF.
 fn form_if(f: usize, t: &[u8]) -> bool
-    ensures { λ r. ⌜ r ≡ formOf 8 f (now (t .entry)) ⌝ }
+    ensures { λ r. ⌜ r ≡ formOf IF f (now (t .entry)) ⌝ }
 {
     match f {
         2 => is_total(t),
@@ -129,29 +129,39 @@ fn form_of(kind: u8, f: usize, t: &[u8]) -> bool
     }
 }
 
-// Whether a number lies from lo to hi.
-fn is_within(lo: usize, hi: usize, f: usize) -> bool
-    ensures { λ r. ⌜ r ≡ within lo hi f ⌝ }
-{
-    if f < lo {
-        return false;
-    }
-    if hi < f { false } else { true }
-}
-
 // Whether field f of a record of a kind is judged at all.
 fn is_judged(kind: u8, f: usize) -> bool
     ensures { λ r. ⌜ r ≡ isJudged kind f ⌝ }
 {
     match kind {
-        IV => is_within(2, 2, f),
-        IH => is_within(2, 3, f),
-        IP => { if f == 25 { true } else { is_within(2, 3, f) } }
-        II => { if f == 7 { false } else { is_within(2, 15, f) } }
-        IE => is_within(2, 5, f),
-        IN => is_within(2, 8, f),
-        IA => is_within(2, 4, f),
-        IF => is_within(2, 3, f),
+        IV => match f {
+            2 => true,
+            _ => false,
+        },
+        IH | IF => match f {
+            2..=3 => true,
+            _ => false,
+        },
+        IP => match f {
+            2..=3 | 25 => true,
+            _ => false,
+        },
+        II => match f {
+            2..=6 | 8..=15 => true,
+            _ => false,
+        },
+        IE => match f {
+            2..=5 => true,
+            _ => false,
+        },
+        IN => match f {
+            2..=8 => true,
+            _ => false,
+        },
+        IA => match f {
+            2..=4 => true,
+            _ => false,
+        },
         _ => false,
     }
 }
@@ -199,15 +209,16 @@ pub fn relaxed(line: &[u8]) -> bool
 fn is_optional(kind: u8, relaxed: bool, f: usize) -> bool
     ensures { λ r. ⌜ r ≡ optionalIn kind relaxed f ⌝ }
 {
-    if kind == IN {
-        return f == 8;
-    }
-    if kind != II {
-        return false;
-    }
-    match f {
-        5 => true,
-        9..=15 => relaxed,
+    match kind {
+        II => match f {
+            5 => true,
+            9..=15 => relaxed,
+            _ => false,
+        },
+        IN => match f {
+            8 => true,
+            _ => false,
+        },
         _ => false,
     }
 }
@@ -235,13 +246,16 @@ fn relaxed_at(kind: u8, line: &[u8], f: usize, t: &[u8]) -> bool
     ensures { λ r. ⌜ lowestIn kind r f (now (t .entry)) 0 ≡ lowestIn kind (isRelaxed (recOf (now (line .entry)))) f (now (t .entry)) 0 ⌝ }
 {
     if t.len() == 0 {
-        if kind == II {
-            if is_within(9, 15, f) {
-                return relaxed(line);
-            }
+        match kind {
+            II => match f {
+                9..=15 => relaxed(line),
+                _ => false,
+            },
+            _ => false,
         }
+    } else {
+        false
     }
-    false
 }
 
 // Whether field f of a line is sound, this being its text.
@@ -272,7 +286,7 @@ pub fn is_given(kind: u8, line: &[u8], f: usize) -> bool
 
 // Rule 10: whether this text of a field of an II is empty and the other field given.
 pub fn rule10_lacks(line: &[u8], t: &[u8], other: usize) -> bool
-    ensures { λ r. ⌜ r ≡ (isEmpty (now (t .entry)) && isGiven 4 (recOf (now (line .entry))) other) ⌝ }
+    ensures { λ r. ⌜ r ≡ (isEmpty (now (t .entry)) && isGiven II (recOf (now (line .entry))) other) ⌝ }
 {
     if t.len() == 0 {
         is_given(II, line, other)
