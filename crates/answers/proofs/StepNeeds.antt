@@ -20,7 +20,7 @@ use Rattle.book.specs.declared.Validity.{Validity as BookValidity}
 use Rattle.book.specs.declared.Validity.the-variants as the-book
 use Rattle.book.specs.Book.{Sound, validOf as bookValid}
 use Rattle.book.specs.LookUp.{withHashTable}
-use Rattle.book.proofs.ValidLaws.{valid-sound, valid-bad, book-small, guided-starts}
+use Rattle.book.proofs.ValidLaws.{valid-sound, valid-bad, book-small, hash-table-starts}
 use Rattle.ledger.specs.declared.Validity.{Validity as LedgerValidity}
 use Rattle.ledger.specs.declared.Validity.the-variants as the-ledger
 use Rattle.ledger.proofs.EventLaws.{among-in}
@@ -264,12 +264,12 @@ pub ruleset for-judge-and-settle = (needs, with-findings, settled-on, judges-par
 -- judged_by
 module _ (today : ℕ) (file book ledger area : Text) (q : Sections) (live : ℕ) (ready : Ready (lent today file book ledger area) q live) (room bytes : Text) (size : length room ≡ 327680) (e : bytes ≡ withHashTable book q room) where
   starts : take (q .end) bytes ≡ book
-  starts = ap (take (q .end)) e ∙ guided-starts book q room (ready .book) (omega (arith, book-small book q (ready .book)))
+  starts = ap (take (q .end)) e ∙ hash-table-starts book q room (ready .book) (omega (arith, book-small book q (ready .book)))
 
-  pub guided-ready : Ready (lent today file (take (q .end) bytes) ledger area) q live
-  guided-ready = subst (λ (b : Text). Ready (lent today file b ledger area) q live) (sym starts) ready
+  pub hashed-ready : Ready (lent today file (take (q .end) bytes) ledger area) q live
+  hashed-ready = subst (λ (b : Text). Ready (lent today file b ledger area) q live) (sym starts) ready
 
-  pub guided-on : (o : Outcome) → o ≡ judged (lent today file (take (q .end) bytes) ledger area) → o ≡ judged (lent today file book ledger area)
-  guided-on o f = f ∙ ap (λ (b : Text). judged (lent today file b ledger area)) starts
+  pub hashed-on : (o : Outcome) → o ≡ judged (lent today file (take (q .end) bytes) ledger area) → o ≡ judged (lent today file book ledger area)
+  hashed-on o f = f ∙ ap (λ (b : Text). judged (lent today file b ledger area)) starts
 
-pub ruleset for-judge-by-hash = (needs, guided-ready, guided-on)
+pub ruleset for-judge-by-hash = (needs, hashed-ready, hashed-on)

@@ -18,22 +18,22 @@ use Rattle.house.specs.Text.{Text}
 use Rattle.house.proofs.Suffix.{drop-here, drop-past, rest, set-past, copy-more}
 use Rattle.book.specs.declared.Sections.{Sections}
 use Rattle.book.specs.Book.{firstWidth, secondWidth, codeWidth, bodyWidth, filled, codeText}
-use Rattle.book.specs.LookUp.{sectionStart, countIn, placeOf, mix, guess, noteRow, noteRows, noteKinds, withHashTable}
+use Rattle.book.specs.LookUp.{sectionStart, countIn, placeOf, hashOf, entryHashed, noteRow, noteRows, noteKinds, withHashTable}
 use Rattle.book.proofs.SearchLaws.{count-from, probe-mul, probe-add, probe-body, probe-code}
 
--- mix
-module _ (t : Text) (from h i : ℕ) (inv : mix from t ≡ mix h (drop i t)) where
+-- hashOf
+module _ (t : Text) (from h i : ℕ) (inv : hashOf from t ≡ hashOf h (drop i t)) where
   module _ (l : i < length t) where
-    pub mix-blank : getD t i 0 ≡ 32 → mix from t ≡ mix h (drop (i + 1) t)
-    unfolding mix
+    pub mix-blank : getD t i 0 ≡ 32 → hashOf from t ≡ hashOf h (drop (i + 1) t)
+    unfolding hashOf
     mix-blank e = inv ∙ rw (drop-here t i l, eq-eqb _ _ e)
 
-    pub mix-byte : (v : ℕ) → (getD t i 0 ≡ 32 → ⊥) → v ≡ getD t i 0 → mix from t ≡ mix ((h * 31 + v) % 32768) (drop (i + 1) t)
-    unfolding mix
+    pub mix-byte : (v : ℕ) → (getD t i 0 ≡ 32 → ⊥) → v ≡ getD t i 0 → hashOf from t ≡ hashOf ((h * 31 + v) % 32768) (drop (i + 1) t)
+    unfolding hashOf
     mix-byte v e f = inv ∙ rw (drop-here t i l, ne-eqb _ _ e, ← f)
 
-  pub mix-end : length t ≤ i → h ≡ mix from t
-  unfolding mix
+  pub mix-end : length t ≤ i → h ≡ hashOf from t
+  unfolding hashOf
   mix-end l = sym (inv ∙ rw (drop-past t i l))
 
 pub mix-low : (n : ℕ) → n % 32768 < 32768
@@ -48,33 +48,33 @@ byte-past t at l = sym (List·getD-eq-default t 0 l)
 pub ruleset for-byte-at = (needs, byte-past)
 
 -- hashed: padding is not hashed
-mix-append : (h : ℕ) (x y : Text) → mix h (x ++ y) ≡ mix (mix h x) y
-unfolding mix
+mix-append : (h : ℕ) (x y : Text) → hashOf h (x ++ y) ≡ hashOf (hashOf h x) y
+unfolding hashOf
 mix-append h [] y = refl
 mix-append h (b ∷ x) y = go (eqb b 32) (mix-append h x y) (mix-append ((h * 31 + b) % 32768) x y)
   where
-    go : (r : Bool) → mix h (x ++ y) ≡ mix (mix h x) y → mix ((h * 31 + b) % 32768) (x ++ y) ≡ mix (mix ((h * 31 + b) % 32768) x) y → cond r (mix h (x ++ y)) (mix ((h * 31 + b) % 32768) (x ++ y)) ≡ mix (cond r (mix h x) (mix ((h * 31 + b) % 32768) x)) y
+    go : (r : Bool) → hashOf h (x ++ y) ≡ hashOf (hashOf h x) y → hashOf ((h * 31 + b) % 32768) (x ++ y) ≡ hashOf (hashOf ((h * 31 + b) % 32768) x) y → cond r (hashOf h (x ++ y)) (hashOf ((h * 31 + b) % 32768) (x ++ y)) ≡ hashOf (cond r (hashOf h x) (hashOf ((h * 31 + b) % 32768) x)) y
     go true e f = e
     go false e f = f
 
-mix-filled : (h w : ℕ) (t : Text) → mix h (filled w t) ≡ mix h t
-unfolding mix
+mix-filled : (h w : ℕ) (t : Text) → hashOf h (filled w t) ≡ hashOf h t
+unfolding hashOf
 mix-filled h zero t = refl
 mix-filled h (suc w) [] = mix-filled h w []
 mix-filled h (suc w) (b ∷ t) = rw (mix-filled h w t, mix-filled ((h * 31 + b) % 32768) w t)
 
-mix-code : (k : ℕ) (a b : Text) → mix k (codeText k a b) ≡ mix (mix k a) b
+mix-code : (k : ℕ) (a b : Text) → hashOf k (codeText k a b) ≡ hashOf (hashOf k a) b
 unfolding codeText
-mix-code k a b = mix-append k (filled (firstWidth k) a) (filled (secondWidth k) b) ∙ rw (mix-filled k (firstWidth k) a, mix-filled (mix k a) (secondWidth k) b)
+mix-code k a b = mix-append k (filled (firstWidth k) a) (filled (secondWidth k) b) ∙ rw (mix-filled k (firstWidth k) a, mix-filled (hashOf k a) (secondWidth k) b)
 
 module _ (s : Text) (q : Sections) (k : ℕ) (a b : Text) where
-  pub guess-none : length s < q .end → 0 ≡ guess s q k (codeText k a b)
-  unfolding guess
+  pub guess-none : length s < q .end → 0 ≡ entryHashed s q k (codeText k a b)
+  unfolding entryHashed
   guess-none l = rw (drop-past s (q .end) (omega arith))
 
-  pub guess-is : (v f m : ℕ) → v ≡ k → f ≡ mix v a → m ≡ mix f b → (x y : ℕ) → x ≡ getD (take (length s - q .end) (drop (q .end) s)) (m * 2) 0 → y ≡ getD (take (length s - q .end) (drop (q .end) s)) (m * 2 + 1) 0
-      → x + y * 256 ≡ guess s q k (codeText k a b)
-  unfolding guess
+  pub guess-is : (v f m : ℕ) → v ≡ k → f ≡ hashOf v a → m ≡ hashOf f b → (x y : ℕ) → x ≡ getD (take (length s - q .end) (drop (q .end) s)) (m * 2) 0 → y ≡ getD (take (length s - q .end) (drop (q .end) s)) (m * 2 + 1) 0
+      → x + y * 256 ≡ entryHashed s q k (codeText k a b)
+  unfolding entryHashed
   guess-is v f m ev ef em x y ex ey = rw (mix-code k a b, ← ev, ← ef, ← em, ← rest s (q .end), ← ex, ← ey)
 
 pub ruleset for-hashed = (needs, guess-none, guess-is)
@@ -91,12 +91,12 @@ module _ (s : Text) (from n i w p q : ℕ) (h : i < n) (g : n * w ≤ length s -
   row-second = omega (arith, probe-code s from n i w p q h g v)
 
 pub row-noted : (s : Text) (k from i w p q : ℕ) (t u v : Text) (j m : ℕ) → w ≡ bodyWidth k + 1 → p ≡ firstWidth k → q ≡ secondWidth k
-    → j ≡ k → m ≡ mix j (take (from + i * w + 1 + p + q - (from + i * w + 1)) (drop (from + i * w + 1) s))
+    → j ≡ k → m ≡ hashOf j (take (from + i * w + 1 + p + q - (from + i * w + 1)) (drop (from + i * w + 1) s))
     → u ≡ set t (m * 2) (i % 256) → v ≡ set u (m * 2 + 1) (i / 256 % 256) → v ≡ noteRow s k from i t
 unfolding noteRow placeOf codeWidth
 row-noted s k from i w p q t u v j m ew ep eq ej em eu ev =
     let n : from + i * w + 1 + p + q - (from + i * w + 1) ≡ p + q = omega arith in
-    let e : m ≡ mix k (take (firstWidth k + secondWidth k) (drop (from + i * (bodyWidth k + 1) + 1) s)) = em ∙ rw (ej, n, ew, ep, eq) in
+    let e : m ≡ hashOf k (take (firstWidth k + secondWidth k) (drop (from + i * (bodyWidth k + 1) + 1) s)) = em ∙ rw (ej, n, ew, ep, eq) in
     ev ∙ rw (eu, e)
 
 pub ruleset for-hash-entry = (needs, probe-mul, probe-add, probe-body, probe-code, row-first, row-second, row-noted)

@@ -29,5 +29,5 @@ in-force-one s p d x y e f = cc
 pub look-up-one : (s : Text) (q : Sections) (k : ℕ) (a b : Text) (d : ℕ) (x y : Standing) → x ≡ standingIn s q k a b d → y ≡ standingIn s q k a b d → x ≡ y
 look-up-one s q k a b d x y e f = cc
 
-pub guide-one : (s : Text) (q : Sections) (room x y : Text) → x ≡ withHashTable s q room → y ≡ withHashTable s q room → x ≡ y
-guide-one s q room x y e f = cc
+pub hash-book-one : (s : Text) (q : Sections) (room x y : Text) → x ≡ withHashTable s q room → y ≡ withHashTable s q room → x ≡ y
+hash-book-one s q room x y e f = cc

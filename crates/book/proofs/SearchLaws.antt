@@ -1,5 +1,5 @@
 -- What each need of the look-up asks: `Sections::start`, `codes_fit`, `widths_of`, `code_order`, `section_count`, `probe`, `found_if`, `at_hash`,
--- `seek`, `sought` and `find`.
+-- `binary_search`, `sought` and `find`.
 -- Assumes nothing.
 use mathlib.Core.Path.{_≡_, refl, sym, ap, _∙_}
 use mathlib.Core.Bool.{Bool, true, false}
@@ -25,7 +25,7 @@ use Rattle.book.specs.declared.Position.{Position}
 use Rattle.book.specs.declared.Found.{Found}
 use Rattle.book.specs.declared.Found.the-variants.{At, Absent}
 use Rattle.book.specs.Book.{firstWidth, secondWidth, codeWidth, bodyWidth, filled, codeText}
-use Rattle.book.specs.LookUp.{sectionStart, countIn, placeOf, orderAt, foundAt, fits, guess, foundIf, hashedIn, searchedIn, soughtIn, foundIn}
+use Rattle.book.specs.LookUp.{sectionStart, countIn, placeOf, orderAt, foundAt, fits, entryHashed, foundIf, hashedIn, searchedIn, soughtIn, foundIn}
 use Rattle.book.specs.Inside.{codePadded, codeOrder}
 use Rattle.book.proofs.WidthLaws.{code-parts, body-parts}
 
@@ -178,7 +178,7 @@ module _ (o : Order) (at : ℕ) where
 pub ruleset for-found-if = (needs, found-less, found-more, found-same)
 
 -- at_hash
-module _ (s : Text) (q : Sections) (k : ℕ) (a b : Text) (f : fits k a b ≡ true) (from n i : ℕ) (ef : from ≡ sectionStart q k) (en : n ≡ countIn s q k) (ei : i ≡ guess s q k (codeText k a b)) where
+module _ (s : Text) (q : Sections) (k : ℕ) (a b : Text) (f : fits k a b ≡ true) (from n i : ℕ) (ef : from ≡ sectionStart q k) (en : n ≡ countIn s q k) (ei : i ≡ entryHashed s q k (codeText k a b)) where
   pub guessed-past : n ≤ i → Absent ≡ hashedIn s q k (codeText k a b)
   unfolding hashedIn
   guessed-past h = rw (← en, ← ei, le-ltb i n h)

@@ -22,7 +22,7 @@ use Rattle.book.specs.declared.Sections.{Sections}
 use Rattle.book.specs.declared.Found.the-variants.{Absent}
 use Rattle.book.specs.declared.Standing.the-variants.{Unknown}
 use Rattle.book.specs.Book.{codeWidth, bodyWidth, Entry, entryOf, entries, codeOf, isEntry, listed, listedOn, inForce, standingOf}
-use Rattle.book.specs.LookUp.{sectionStart, countIn, placeOf, orderAt, foundAt, guess, foundIf, hashedIn, searchedIn, elseFound, soughtIn, inForceAt, standingAt}
+use Rattle.book.specs.LookUp.{sectionStart, countIn, placeOf, orderAt, foundAt, entryHashed, foundIf, hashedIn, searchedIn, elseFound, soughtIn, inForceAt, standingAt}
 use Rattle.book.proofs.EntryLaws.{code-is}
 use Rattle.book.proofs.ForceLaws.{force-days}
 use Rattle.book.proofs.KindLaws.{rowAt, row-form, row-head, row-asc, any-miss, any-only, Only}
@@ -139,7 +139,7 @@ module _ (s book : Text) (q : Sections) (k n : ℕ) (sec : Section s book q k n)
   sought d = go (ltb i (countIn s q k)) refl (orderAt s k from x i) refl
     where
       i : ℕ
-      i = guess s q k x
+      i = entryHashed s q k x
 
       go : (u : Bool) → ltb i (countIn s q k) ≡ u → (o : Order) → orderAt s k from x i ≡ o
           → standingAt s d (elseFound (cond u (foundIf o (placeOf k from i)) Absent) (binarySearch (orderAt s k from x) (foundAt k from) Absent (countIn s q k) 0 (countIn s q k))) ≡ standingOf (entries book) k x d

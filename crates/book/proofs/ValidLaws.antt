@@ -40,7 +40,7 @@ module _ (s : Text) (v : Validity) (e : v ≡ validOf s) where
       go true p z = clash (cc)
       go false p z = p
 
--- a book ends where its last section ends, and a withHashTable book starts with it
+-- a book ends where its last section ends, and a book with its hash table starts with it
 no-entries : (t : Text) → soundFrom 9 [] (entries t) ≡ true → t ≡ []
 no-entries [] h = refl
 no-entries (b ∷ u) h = clash (cc (top-false [] (entryOf b u) (entries (drop (bodyWidth b) u)), unroll b u))
@@ -55,6 +55,6 @@ end-is s q h =
 pub book-small : (s : Text) (q : Sections) → Sound s q → length s ≤ 262144
 book-small s q h = leb-true (length s) 262144 (both (leb (length s) 262144) (soundFrom 1 [] (entries s)) (sym (book-is s) ∙ h .ok) .0)
 
-pub guided-starts : (s : Text) (q : Sections) (room : Text) → Sound s q → length s ≤ length room → take (q .end) (withHashTable s q room) ≡ s
+pub hash-table-starts : (s : Text) (q : Sections) (room : Text) → Sound s q → length s ≤ length room → take (q .end) (withHashTable s q room) ≡ s
 unfolding withHashTable
-guided-starts s q room h l = rw (le-leb _ _ l) (ap (λ (n : ℕ). take n (s ++ noteKinds s q 8 (drop (length s) room))) (end-is s q h) ∙ take-append-seam s (noteKinds s q 8 (drop (length s) room)))
+hash-table-starts s q room h l = rw (le-leb _ _ l) (ap (λ (n : ℕ). take n (s ++ noteKinds s q 8 (drop (length s) room))) (end-is s q h) ∙ take-append-seam s (noteKinds s q 8 (drop (length s) room)))

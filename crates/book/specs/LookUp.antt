@@ -51,15 +51,15 @@ unfoldable pub fits : ℕ → Text → Text → Bool
 fits k a b = leb (length a) (firstWidth k) && leb (length b) (secondWidth k)
 
 -- the number below 32768 that is the hash of a code, from h on, at first its kind: by its bytes other than blanks, so the same with and without padding
-unfoldable pub mix : ℕ → Text → ℕ
-mix h [] = h
-mix h (b ∷ t) = cond (eqb b 32) (mix h t) (mix ((h * 31 + b) % 32768) t)
+unfoldable pub hashOf : ℕ → Text → ℕ
+hashOf h [] = h
+hashOf h (b ∷ t) = cond (eqb b 32) (hashOf h t) (hashOf ((h * 31 + b) % 32768) t)
 
 -- which entry of a kind the table after the last section names for a code: two bytes, the lower first; 0 for a byte that is not there
-unfoldable pub guess : Text → Sections → ℕ → Text → ℕ
-guess s q k code =
+unfoldable pub entryHashed : Text → Sections → ℕ → Text → ℕ
+entryHashed s q k code =
     let table = drop (q .end) s in
-    let at = mix k code * 2 in
+    let at = hashOf k code * 2 in
     getD table at 0 + getD table (at + 1) 0 * 256
 
 -- a place, if what stands there is what is sought
@@ -69,7 +69,7 @@ foundIf o at = byOrder o Absent (At (record { at = at })) Absent
 -- where the entry that the hash names is, if there is one and it has the code
 unfoldable pub hashedIn : Text → Sections → ℕ → Text → Found
 hashedIn s q k code =
-    let i = guess s q k code in
+    let i = entryHashed s q k code in
     cond (ltb i (countIn s q k)) (foundIf (orderAt s k (sectionStart q k) code i) (placeOf k (sectionStart q k) i)) Absent
 
 -- where an entry with the code is, by binary search
@@ -107,7 +107,7 @@ standingIn s q k a b d = standingAt s d (foundIn s q k a b)
 -- entry i of those of kind k that start at `from`, noted in a table
 unfoldable pub noteRow : Text → ℕ → ℕ → ℕ → Text → Text
 noteRow s k from i t =
-    let at = mix k (take (codeWidth k) (drop (placeOf k from i + 1) s)) * 2 in
+    let at = hashOf k (take (codeWidth k) (drop (placeOf k from i + 1) s)) * 2 in
     set (set t at (i % 256)) (at + 1) (i / 256 % 256)
 
 -- the first n of them

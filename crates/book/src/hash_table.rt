@@ -9,7 +9,7 @@ ghost use mathlib.Core.List.{_++_};
 ghost use Prim.Native.Nat.{_<_, _≤_, _+_, _-_, _*_};
 ghost use lib.ListN.{length, drop, set, getD};
 ghost use Rattle.book.specs.Book.{firstWidth, secondWidth, bodyWidth, codeText};
-ghost use Rattle.book.specs.LookUp.{mix, guess, noteRow, noteKind, noteKinds, withHashTable};
+ghost use Rattle.book.specs.LookUp.{hashOf, entryHashed, noteRow, noteKind, noteKinds, withHashTable};
 
 // A byte, as a number to reckon with.
 fn value(b: u8) -> usize
@@ -22,7 +22,7 @@ fn value(b: u8) -> usize
 // The hash of a text, from another on.
 fn hash(from: usize, text: &[u8]) -> usize
     requires { ⌜ from < 32768 ⌝ }
-    ensures { λ r. ⌜ r ≡ mix from (now (text .entry)) ⌝ }
+    ensures { λ r. ⌜ r ≡ hashOf from (now (text .entry)) ⌝ }
     ensures { λ r. ⌜ r < 32768 ⌝ }
 {
     let mut h = from;
@@ -53,7 +53,7 @@ fn byte_at(table: &[u8], at: usize) -> usize
 
 // Which entry of a kind the table after a book names for a code, given as for find.
 pub(crate) fn hashed(book: &[u8], sections: Sections, k: u8, a: &[u8], b: &[u8]) -> usize
-    ensures { λ r. ⌜ r ≡ guess (now (book .entry)) sections k (codeText k (now (a .entry)) (now (b .entry))) ⌝ }
+    ensures { λ r. ⌜ r ≡ entryHashed (now (book .entry)) sections k (codeText k (now (a .entry)) (now (b .entry))) ⌝ }
 {
     let end = sections.end;
     if book.len() < end {

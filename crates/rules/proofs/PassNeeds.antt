@@ -30,7 +30,7 @@ use Rattle.rules_definitions.specs.Findings.{fieldsFindings}
 use Rattle.rules_forms.specs.TextLeaves.{valueOf}
 use Rattle.rules_plain.specs.PlainFields.{bornOf}
 use Rattle.rules_forms.specs.FieldLeaves.{soundAs}
-use Rattle.rules_forms.proofs.FieldLaws.{text-is, sound-as, field-behind}
+use Rattle.rules_forms.proofs.FieldLaws.{text-is, sound-as, field-after}
 use Rattle.rules_forms.proofs.SoundLaws.{ii-6, in-5}
 use Rattle.rules_walk.specs.Firsts.{foundBefore}
 use Rattle.book.specs.declared.Sections.{Sections}
@@ -53,9 +53,9 @@ unfolding eventOf
 event-is line u v w a b c key x y z p q r e =
     e
     ∙ rw (
-      p ∙ field-behind line u 2 0 x,
-      q ∙ field-behind u v 3 0 y ∙ field-behind line u 2 3 x,
-      r ∙ field-behind v w 2 0 z ∙ field-behind u v 3 2 y ∙ field-behind line u 2 5 x,
+      p ∙ field-after line u 2 0 x,
+      q ∙ field-after u v 3 0 y ∙ field-after line u 2 3 x,
+      r ∙ field-after v w 2 0 z ∙ field-after u v 3 2 y ∙ field-after line u 2 5 x,
       text-is line 3,
       text-is line 6,
       text-is line 8,

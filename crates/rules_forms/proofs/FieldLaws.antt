@@ -75,6 +75,6 @@ unfolding lacks
 lacks-of line t f other d = rw (text-is line f, ← d)
 
 -- the fields after the first f
-pub field-behind : (t u : Text) (f j : ℕ) → u ≡ drop (fieldsLen f t) t → fieldOf u (suc j) ≡ fieldOf t (suc (f + j))
+pub field-after : (t u : Text) (f j : ℕ) → u ≡ drop (fieldsLen f t) t → fieldOf u (suc j) ≡ fieldOf t (suc (f + j))
 unfolding fieldOf
-field-behind t u f j e = ap (λ (s : Text). getD (fieldsOf s) j []) e ∙ rw (fields-after f t) (getD-drop f (fieldsOf t) j [])
+field-after t u f j e = ap (λ (s : Text). getD (fieldsOf s) j []) e ∙ rw (fields-after f t) (getD-drop f (fieldsOf t) j [])

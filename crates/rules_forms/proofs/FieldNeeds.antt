@@ -17,7 +17,7 @@ use Rattle.lines_fields.proofs.FieldLaws.{fields-le}
 use Rattle.rules_definitions.specs.Forms.{anything, table, formOf, isJudged, isRelaxed, relaxedBy, isSound, isGiven}
 use Rattle.rules_forms.proofs.ClassLaws.{within-low, within-high}
 use Rattle.rules_forms.specs.FieldLeaves.{givenElsewhere, optionalIn, lowestIn, soundAs}
-use Rattle.rules_forms.proofs.FieldLaws.{text-is, field-is, relaxed-is, empty-true, empty-false, lowest-either, lowest-filled, sound-as, field-behind}
+use Rattle.rules_forms.proofs.FieldLaws.{text-is, field-is, relaxed-is, empty-true, empty-false, lowest-either, lowest-filled, sound-as, field-after}
 use Rattle.rules_forms.proofs.SoundLaws.{given-by}
 
 pub same-either : (b : Bool) → true ≡ cond b true true
@@ -70,7 +70,7 @@ pub ruleset for-refused = (needs, refused-none, refused-why, refused-ab, refused
 
 module _ (l v : Text) (a : v ≡ drop (fieldsLen 4 l) l) (t : Text) (d : t ≡ fieldOf v 1) (x : Bool) (e : x ≡ same t (72 ∷ [])) where
   is-fifth : fieldOf l 5 ≡ t
-  is-fifth = sym (d ∙ field-behind l v 4 0 a)
+  is-fifth = sym (d ∙ field-after l v 4 0 a)
 
   pub relaxed-h : x ≡ true → true ≡ relaxedBy (fieldsOf l)
   unfolding relaxedBy
@@ -78,7 +78,7 @@ module _ (l v : Text) (a : v ≡ drop (fieldsLen 4 l) l) (t : Text) (d : t ≡ f
 
   module _ (n : x ≡ false) (r : Text) (b : r ≡ drop (fieldsLen 13 v) v) (u : Text) (g : u ≡ fieldOf r 3) where
     later : (j : ℕ) → fieldOf l (suc (4 + (13 + j))) ≡ fieldOf r (suc j)
-    later j = sym (field-behind v r 13 j b ∙ field-behind l v 4 (13 + j) a)
+    later j = sym (field-after v r 13 j b ∙ field-after l v 4 (13 + j) a)
 
     is-last : fieldOf l 20 ≡ u
     is-last = later 2 ∙ sym g

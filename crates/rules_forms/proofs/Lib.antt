@@ -9,7 +9,6 @@ mod ClassNeeds
 mod ValueNeeds
 mod FormNeeds
 mod DosageNeeds
-mod TextNeeds
 mod JudgedNeeds
 mod FieldNeeds
 -- No second answer

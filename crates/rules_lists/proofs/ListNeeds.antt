@@ -24,7 +24,7 @@ use Rattle.rules_forms.specs.FieldLeaves.{soundAs}
 use Rattle.rules_lists.specs.Among.{antigenIs, lotIs, doseIn, countIs, countIn, soundCount}
 use Rattle.rules_lists.proofs.StepNeeds.{step-same}
 use Rattle.rules_forms.proofs.FieldLaws.{text-is, kind-is, sound-as}
-use Rattle.rules_forms.proofs.FieldLaws.{field-behind}
+use Rattle.rules_forms.proofs.FieldLaws.{field-after}
 
 -- Loops over lines that ask the same of each
 module _ (p : Rec → Bool) (s : Text) (at : ℕ) (x : Bool) where
@@ -110,13 +110,13 @@ counts-are l t n ls d e = rw (d, e)
 -- has_count, count_among, counts_alike: a line l goes on at its field 4
 module _ (l v u : Text) (c : v ≡ drop (fieldsLen 3 l) l) (d : u ≡ fieldOf v 1) where
   antigen-is : text (recOf l) 4 ≡ u
-  antigen-is = text-is l 4 ∙ sym (d ∙ field-behind l v 3 0 c)
+  antigen-is = text-is l 4 ∙ sym (d ∙ field-after l v 3 0 c)
 
   -- and at its field 5
   module _ (w r : Text) (n : ℕ) (f : w ≡ drop (fieldsLen 1 v) v) (g : r ≡ fieldOf w 1) (k : n ≡ doseIn r) where
     dose-there : doseOf (recOf l) ≡ n
     unfolding doseOf doseIn
-    dose-there = rw (text-is l 5, ← field-behind l v 3 1 c, ← field-behind v w 1 0 f, ← g) (sym k)
+    dose-there = rw (text-is l 5, ← field-after l v 3 1 c, ← field-after v w 1 0 f, ← g) (sym k)
 
     pub count-here : (t : Text) (m : ℕ) (x : Bool) → x ≡ same t u → x ≡ true → eqb m n ≡ countIs t m (recOf l)
     unfolding countIs

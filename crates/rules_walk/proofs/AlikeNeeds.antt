@@ -17,7 +17,7 @@ use Rattle.lines_fields.specs.Lines.{pipe, lengthen, fieldsOf, fieldOf, fieldsL
 use Rattle.lines.specs.Records.{recOf}
 use Rattle.lines_fields.proofs.FieldLaws.{start-zero, lengthen-take, fields-le, fields-alike}
 use Rattle.rules_definitions.specs.Blocks.{sameEvent, joins}
-use Rattle.rules_forms.proofs.FieldLaws.{text-is, field-behind}
+use Rattle.rules_forms.proofs.FieldLaws.{text-is, field-after}
 use Rattle.rules_walk.specs.From.{sameDated, sameTyped, sameBehind, sameFrom, InCommon}
 
 -- alike: in a text t the field after n fields starts at a position, and the later ones where the fields from position i on say
@@ -146,22 +146,22 @@ module _ (n : ℕ) (a b : Text) where
             k,
             ← f,
             h,
-            ← field-behind a p 1 0 c,
-            ← field-behind b q 1 0 d,
-            ← field-behind a p 1 2 c,
-            ← field-behind b q 1 2 d,
-            ← field-behind a p 1 4 c,
-            ← field-behind b q 1 4 d,
+            ← field-after a p 1 0 c,
+            ← field-after b q 1 0 d,
+            ← field-after a p 1 2 c,
+            ← field-after b q 1 2 d,
+            ← field-after a p 1 4 c,
+            ← field-after b q 1 4 d,
           )
           e
 
       pub from-2 : n ≡ 2 → y ≡ sameDated p q → y ≡ sameFrom n a b
       unfolding sameFrom sameBehind sameDated
-      from-2 k e = rw (k, ← field-behind a p 1 0 c, ← field-behind b q 1 0 d, ← field-behind a p 1 2 c, ← field-behind b q 1 2 d) e
+      from-2 k e = rw (k, ← field-after a p 1 0 c, ← field-after b q 1 0 d, ← field-after a p 1 2 c, ← field-after b q 1 2 d) e
 
       pub from-4 : n ≡ 4 → y ≡ same (fieldOf p 1) (fieldOf q 1) → y ≡ sameFrom n a b
       unfolding sameFrom sameBehind
-      from-4 k e = rw (k, ← field-behind a p 1 0 c, ← field-behind b q 1 0 d) e
+      from-4 k e = rw (k, ← field-after a p 1 0 c, ← field-after b q 1 0 d) e
 
   pub from-all : (n ≡ 0 → ⊥) → (n ≡ 1 → ⊥) → (n ≡ 2 → ⊥) → (n ≡ 3 → ⊥) → (n ≡ 4 → ⊥) → (n ≡ 5 → ⊥) → true ≡ sameFrom n a b
   unfolding sameFrom sameBehind
@@ -187,10 +187,10 @@ swap false false z = refl
 
 module _ (p q : Text) (n at : ℕ) (g : InCommon p q n at) where
   behind-p : (j : ℕ) → fieldOf (drop at p) (suc j) ≡ fieldOf p (suc (n + j))
-  behind-p j = field-behind p (drop at p) n j (ap (λ (k : ℕ). drop k p) (g .here))
+  behind-p j = field-after p (drop at p) n j (ap (λ (k : ℕ). drop k p) (g .here))
 
   behind-q : (j : ℕ) → fieldOf (drop at q) (suc j) ≡ fieldOf q (suc (n + j))
-  behind-q j = field-behind q (drop at q) n j (ap (λ (k : ℕ). drop k q) (g .there))
+  behind-q j = field-after q (drop at q) n j (ap (λ (k : ℕ). drop k q) (g .there))
 
   same-behind : (f : ℕ) → sameBehind n (suc f) (drop at p) (drop at q) ≡ same (fieldOf p (suc f)) (fieldOf q (suc f))
   unfolding sameBehind
@@ -205,7 +205,7 @@ module _ (p q : Text) (n at : ℕ) (g : InCommon p q n at) where
 
   module _ (a b : Text) (c : p ≡ drop (fieldsLen 2 a) a) (d : q ≡ drop (fieldsLen 2 b) b) where
     same-line : (f : ℕ) → sameBehind n (suc f) (drop at p) (drop at q) ≡ same (fieldOf a (suc (2 + f))) (fieldOf b (suc (2 + f)))
-    same-line f = rw (same-behind f, field-behind a p 2 f c, field-behind b q 2 f d)
+    same-line f = rw (same-behind f, field-after a p 2 f c, field-after b q 2 f d)
 
     pub joins-from : (y : Bool) → y ≡ sameFrom n (take (length p - at) (drop at p)) (take (length q - at) (drop at q)) → y ≡ joins (recOf a) (recOf b)
     unfolding joins sameEvent sameFrom

@@ -18,7 +18,7 @@ use Rattle.rules_definitions.specs.Forms.{isUli, isType, isCode}
 use Rattle.rules_definitions.specs.Blocks.{isInBlock}
 use Rattle.rules_walk.specs.From.{datedFrom, typedFrom, sameDated, sameTyped}
 use Rattle.rules_forms.proofs.FieldLaws.{text-is, kind-is}
-use Rattle.rules_forms.proofs.FieldLaws.{field-behind}
+use Rattle.rules_forms.proofs.FieldLaws.{field-after}
 use Rattle.rules_forms.proofs.SoundLaws.{ii-3, ii-4, ii-6, ii-8}
 use Rattle.house.proofs.Suffix.{rest}
 use Rattle.rules_walk.proofs.BlockStartLaws.{starts-past}
@@ -42,12 +42,12 @@ module _ (a b : Text) (x : Bool) (e : x ≡ same (fieldOf a 1) (fieldOf b 1)) wh
   module _ (h : x ≡ true) (p q : Text) (c : p ≡ drop (fieldsLen 2 a) a) (d : q ≡ drop (fieldsLen 2 b) b) (y : Bool) where
     pub dated-same : y ≡ same (fieldOf p 1) (fieldOf q 1) → y ≡ sameDated a b
     unfolding sameDated
-    dated-same f = rw (← e, h, ← field-behind a p 2 0 c, ← field-behind b q 2 0 d) f
+    dated-same f = rw (← e, h, ← field-after a p 2 0 c, ← field-after b q 2 0 d) f
 
     pub typed-same : y ≡ sameDated p q → y ≡ sameTyped a b
     unfolding sameDated sameTyped
     typed-same f =
-        rw (← e, h, ← field-behind a p 2 0 c, ← field-behind b q 2 0 d, ← field-behind a p 2 2 c, ← field-behind b q 2 2 d) f
+        rw (← e, h, ← field-after a p 2 0 c, ← field-after b q 2 0 d, ← field-after a p 2 2 c, ← field-after b q 2 2 d) f
 
 pub ruleset for-same-dated = (needs, dated-other, dated-same)
 
@@ -56,7 +56,7 @@ pub ruleset for-same-typed = (needs, typed-other, typed-same)
 -- Field 4 and those after it, of a line l that goes on at its field 3 and then at its field 4
 module _ (l third fourth : Text) (c : third ≡ drop (fieldsLen 2 l) l) (d : fourth ≡ drop (fieldsLen 1 third) third) where
   from-fourth : (j : ℕ) → fieldOf l (suc (2 + (1 + j))) ≡ fieldOf fourth (suc j)
-  from-fourth j = sym (field-behind third fourth 1 j d ∙ field-behind l third 2 (1 + j) c)
+  from-fourth j = sym (field-after third fourth 1 j d ∙ field-after l third 2 (1 + j) c)
 
   is-4 : fieldOf l 4 ≡ fieldOf fourth 1
   is-4 = from-fourth 0
@@ -124,7 +124,7 @@ module _ (s t : Text) (d : t ≡ fieldOf s 1) (x : Bool) where
 
   module _ (h : x ≡ true) (r q : Text) (b : r ≡ drop (fieldsLen 1 s) s) (c : q ≡ drop (fieldsLen 1 r) r) (y : Bool) where
     behind-two : (j : ℕ) → fieldOf s (suc (1 + (1 + j))) ≡ fieldOf q (suc j)
-    behind-two j = sym (field-behind r q 1 j c ∙ field-behind s r 1 (1 + j) b)
+    behind-two j = sym (field-after r q 1 j c ∙ field-after s r 1 (1 + j) b)
 
     pub dated-both : (u : Text) → x ≡ isDate t → u ≡ fieldOf q 1 → y ≡ isCode u → y ≡ datedFrom s
     unfolding datedFrom
@@ -146,7 +146,7 @@ module _ (l : Text) (k : ℕ) (d : k ≡ recordOf l) where
 
   module _ (z : k ≡ 4) (p : Text) (c : p ≡ drop (fieldsLen 2 l) l) (t : Text) (g : t ≡ fieldOf p 1) (x : Bool) (e : x ≡ isUli t) where
     is-3 : fieldOf l 3 ≡ t
-    is-3 = sym (g ∙ field-behind l p 2 0 c)
+    is-3 = sym (g ∙ field-after l p 2 0 c)
 
     pub block-3 : x ≡ false → false ≡ isInBlock (recOf l)
     unfolding isInBlock

@@ -31,8 +31,8 @@ module _ (x : Answer) (h : Narrow x) where
     pub deleted-narrow : d < 4294967296
     deleted-narrow = all-narrow .2
 
-    pub declined-narrow : n < 4294967296
-    declined-narrow = all-narrow .3
+    pub not-immunized-narrow : n < 4294967296
+    not-immunized-narrow = all-narrow .3
 
   pub line-narrow : (n cause : ℕ) → x ≡ BadShape n cause → n < 4294967296
   unfolding Narrow
@@ -81,7 +81,7 @@ pub ruleset for-numbers-of = (
   added-narrow,
   changed-narrow,
   deleted-narrow,
-  declined-narrow,
+  not-immunized-narrow,
   line-narrow,
   found-narrow,
   accepted-numbers,

@@ -11,7 +11,7 @@ use Rattle.tuulveski.specs.declared.interface.FieldAt.{FieldAt}
 use Rattle.answers.specs.Answers.{Lent, check, numbersOf}
 
 abbrev pub numbers : ℕ → ℕ → ℕ → ℕ → ℕ → ℕ → ℕ → ℕ → Numbers
-numbers answer line cause found added changed deleted declined =
+numbers answer line cause found added changed deleted not-immunized =
     record {
       answer = answer;
       line = line;
@@ -20,7 +20,7 @@ numbers answer line cause found added changed deleted declined =
       added = added;
       changed = changed;
       deleted = deleted;
-      «not_immunized» = declined;
+      «not_immunized» = not-immunized;
     }
 
 -- the numbers in the order of document 01: "answer, line, cause, findings, added, changed, deleted, IN"

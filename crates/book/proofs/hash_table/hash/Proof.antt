@@ -4,12 +4,12 @@ use Rattle.book.proofs.HashLaws.{for-hash}
 use mathlib.Core.Path.{_≡_}
 use Prim.Native.Nat.{_-_, _<_}
 use lib.ListN.{length, drop}
-use Rattle.book.specs.LookUp.{mix}
+use Rattle.book.specs.LookUp.{hashOf}
 use Rattle.book.proofs.hash_table.hash.Statement.{statement}
 use Rattle.book.proofs.hash_table.hash.Tie as tie
 
 abbrev Inv-loop : tie.InvT-loop
-Inv-loop from text h₀ i₀ h i = (h < 32768) × (mix from text ≡ mix h (drop i text))
+Inv-loop from text h₀ i₀ h i = (h < 32768) × (hashOf from text ≡ hashOf h (drop i text))
 
 abbrev μ-loop : tie.MeasureT-loop
 μ-loop from text h₀ i₀ h i = length text - i
