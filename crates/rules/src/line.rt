@@ -116,12 +116,10 @@ fn judged_fields(k: u8, line: &[u8]) -> usize
     ensures { λ r. ⌜ r ≡ judgedFields k (length (fieldsOf (now (line .entry)))) ⌝ }
 {
     let fields = lines_fields::count_fields(line);
-    if k == II {
-        if 15 < fields {
-            return 15;
-        }
+    match k {
+        II => { if 15 < fields { 15 } else { fields } }
+        _ => fields,
     }
-    fields
 }
 
 // The fields of a line of kind k, the n-th of the file, of an II those up to 15: their findings put to the others.
@@ -228,10 +226,9 @@ fn judge_person(
 fn is_person(k: u8, line: &[u8]) -> bool
     ensures { λ r. ⌜ r ≡ eqb k 3 && leb 25 (length (fieldsOf (now (line .entry)))) ⌝ }
 {
-    if k == lines::IP {
-        25 <= lines_fields::count_fields(line)
-    } else {
-        false
+    match k {
+        lines::IP => 25 <= lines_fields::count_fields(line),
+        _ => false,
     }
 }
 
