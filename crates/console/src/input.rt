@@ -7,6 +7,17 @@ ghost use mathlib.Core.Path.{_≡_};
 ghost use Rattle.answers.specs.Answers.{left};
 ghost use Rattle.console.specs.Program.{todayIn, overLong, answerOf};
 
+// Eight digits of today and LF.
+const TODAY_LINE: usize = 9;
+
+// "the submission (at most 32,000 bytes)"
+const MOST_SUBMISSION: usize = 32000;
+
+// "`codes.bin` (16,000) and `ledger.bin` (7,600)"
+const MOST_CODES: usize = 16000;
+
+const MOST_LEDGER: usize = 7600;
+
 // Today, where the first line is a date: eight digits and LF; 0, which is no date, for any other first line.
 fn today_in(input: &[u8]) -> u32
     ensures { λ r. ⌜ r ≡ todayIn (now (input .entry)) ⌝ }
@@ -46,16 +57,16 @@ pub fn answer(input: &[u8], book: &[u8], ledger: &mut [u8], area: &mut [u8]) -> 
     if today == 0 {
         return Answer::Date;
     }
-    if 32009 < input.len() {
+    if TODAY_LINE + MOST_SUBMISSION < input.len() {
         return Answer::Long;
     }
-    if 16000 < book.len() {
+    if MOST_CODES < book.len() {
         return Answer::Book;
     }
-    if 7600 < ledger.len() {
+    if MOST_LEDGER < ledger.len() {
         return over_long(book);
     }
-    let from = 9;
+    let from = TODAY_LINE;
     let to = input.len();
     answers::check(today, &input[from..to], book, ledger, area)
 }

@@ -7,11 +7,17 @@ ghost use mathlib.Core.Path.{_≡_};
 ghost use lib.ListN.{length};
 ghost use Rattle.io.specs.Counts.{Counts};
 
-// 6,000 zeros: room for 1,000 findings. The `ensures` gives only the length, which lending the array as a slice needs.
-fn findings_area() -> [u8; 6000]
+// "room for 1,000 findings"
+pub(crate) const MOST_FINDINGS: usize = 1000;
+
+// A finding has six bytes.
+const AREA: usize = 6 * MOST_FINDINGS;
+
+// An area of zeros for the findings. The `ensures` gives only the length, which lending the array as a slice needs.
+fn findings_area() -> [u8; AREA]
     ensures { λ r. ⌜ 6000 ≡ length r ⌝ }
 {
-    [0; 6000]
+    [0; AREA]
 }
 
 // Reads a file by name; a missing file is empty. It answers how many bytes it put at the start of the space.

@@ -1,4 +1,5 @@
 // What the program prints: "answer, line, cause, findings, added, changed, deleted, IN; then line, field, rule for each finding kept".
+use crate::MOST_FINDINGS;
 use answers::Answer;
 ghost use mathlib.Core.Path.{_≡_};
 ghost use Rattle.answers.specs.Answers.{numbersOf};
@@ -70,7 +71,7 @@ pub(crate) fn print(a: Answer, area: &[u8]) {
     let numbers = numbers_of(a);
     on_a_line(&numbers);
     let mut i = 0;
-    while i < 1000 {
+    while i < MOST_FINDINGS {
         if (i as u64) < numbers[3] {
             finding(area, 6 * i);
         }

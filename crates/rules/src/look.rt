@@ -1,6 +1,7 @@
 // What is known of a line before its fields are judged: its day, and what the index and the ledger say of its event.
 use crate::BlockAt;
 use crate::Known;
+use house::Key;
 use lines::II;
 use lines::IN;
 use rules_fields::Day;
@@ -12,13 +13,13 @@ ghost use Rattle.rules.specs.Walk.{factsBy, dayBy};
 ghost use Rattle.rules.specs.Fields.{dayIn};
 
 // The event that a line names: fields 3, 6 and 8, by going on from one to the next.
-fn event_of(line: &[u8]) -> [u8; 37]
+fn event_of(line: &[u8]) -> [u8; Key::WIDTH]
     ensures { λ r. ⌜ r ≡ eventOf (recOf (now (line .entry))) ⌝ }
 {
     let third = rules_forms::after_fields(line, 2);
     let sixth = rules_forms::after_fields(third, 3);
     let eighth = rules_forms::after_fields(sixth, 2);
-    let key = house::Key::of(
+    let key = Key::of(
         lines_fields::field_of(third, 1),
         lines_fields::field_of(sixth, 1),
         lines_fields::field_of(eighth, 1),
