@@ -13,6 +13,8 @@ const TODAY_LINE: usize = 9;
 // "the submission (at most 32,000 bytes)"
 const MOST_SUBMISSION: usize = 32000;
 
+const MOST_INPUT: usize = TODAY_LINE + MOST_SUBMISSION;
+
 // "`codes.bin` (16,000) and `ledger.bin` (7,600)"
 const MOST_CODES: usize = 16000;
 
@@ -57,7 +59,7 @@ pub fn answer(input: &[u8], book: &[u8], ledger: &mut [u8], area: &mut [u8]) -> 
     if today == 0 {
         return Answer::Date;
     }
-    if TODAY_LINE + MOST_SUBMISSION < input.len() {
+    if MOST_INPUT < input.len() {
         return Answer::Long;
     }
     if MOST_CODES < book.len() {

@@ -11,6 +11,13 @@ fn long(n: usize) -> u64
     n as u64
 }
 
+// A byte, as a number to print.
+fn wide(b: u8) -> u64
+    ensures { λ r. ⌜ r ≡ b ⌝ }
+{
+    b as u64
+}
+
 // The numbers of an answer.
 fn numbers_of(a: Answer) -> [u64; 8]
     ensures { λ r. ⌜ r ≡ numbersOf a ⌝ }
@@ -59,14 +66,14 @@ fn finding(area: &[u8], at: usize) {
     if at < area.len() {
         if 6 <= area.len() - at {
             let line = house::number_at(area, at + 1);
-            let field = area[at + 5];
-            let rule = area[at];
-            on_a_line(&[line as u64, field as u64, rule as u64]);
+            let field = wide(area[at + 5]);
+            let rule = wide(area[at]);
+            on_a_line(&[line as u64, field, rule]);
         }
     }
 }
 
-// Prints an answer, and the findings kept in an area of 6,000 bytes.
+// Prints an answer, and the findings kept in their area.
 pub(crate) fn print(a: Answer, area: &[u8]) {
     let numbers = numbers_of(a);
     on_a_line(&numbers);
