@@ -130,18 +130,18 @@ fn times(plan: &Plan, family: &Family, size: Size) -> Result<Times, String> {
 fn page(plan: &Plan, rows: &[Row]) -> String {
     format!(
         "# Speed\n\n\
-        The check against the independent Rust implementation of `tests/differential`, both x86-64, in one process and one run. \
-        `bench/run` measures and writes this page; `bench/run --quick` tries it on small files and writes nothing.\n\n\
+        The check against the independent Rust implementation of `tests/differential`, both x86-64, in one process and one\n\
+        run. `bench/run` measures and writes this page; `bench/run --quick` tries it on small files and writes nothing.\n\n\
         Measured on {date}, the product at {product}: {machine}.\n\n\
-        Full size is a file of 5,000,000 bytes (fewer where the records are at their highest number, 99,999), a book of about 200 KB and a \
-        ledger of 100,000 slots, 60% of them live (40% for one patient); a part of it has a part of each. Each time is the processor \
-        time of the check alone, without the filling of ledger and findings area: the median of up to {runs} runs, fewer where one takes \
-        seconds. For every run the two answers, ledgers \
-        and areas were compared, byte for byte, and were the same. A dash: left out, for it would take over {limit} s.\n\n\
+        Full size is a file of 5,000,000 bytes (fewer where the records are at their highest number, 99,999), a book of about\n\
+        200 KB and a ledger of 100,000 slots, 60% of them live (40% for one patient); a part of it has a part of each. Each\n\
+        time is the processor time of the check alone, without the filling of ledger and findings area: the median of up to {runs}\n\
+        runs, fewer where one takes seconds. For every run the two answers, ledgers and areas were compared, byte for byte,\n\
+        and were the same. A dash: left out, for it would take over {limit} s.\n\n\
         {families}\n\
         ## At the largest size\n\n\
-        The ratio is the product's time over the other's. Growth is the time for a byte of the file at the largest size over that at the \
-        smallest: 1 where the time is in proportion to the size.\n\n\
+        The ratio is the product's time over the other's. Growth is the time for a byte of the file at the largest size over\n\
+        that at the smallest: 1 where the time is in proportion to the size.\n\n\
         {ratios}\n\
         ## At each size\n\n\
         Milliseconds, the product's / the independent implementation's.\n\n\
@@ -157,7 +157,7 @@ fn page(plan: &Plan, rows: &[Row]) -> String {
     )
 }
 
-/// The processor as the system names it, and how busy it is.
+/// The processor as the system names it.
 fn machine() -> String {
     let about = std::fs::read_to_string("/proc/cpuinfo").unwrap_or_default();
     let names: Vec<&str> = about
@@ -166,12 +166,5 @@ fn machine() -> String {
         .filter_map(|line| line.split(": ").nth(1))
         .collect();
     let name = names.first().unwrap_or(&"a processor without a name");
-    let load = std::fs::read_to_string("/proc/loadavg").unwrap_or_default();
-    let load: Vec<&str> = load.split(' ').take(3).collect();
-    format!(
-        "{name}, {} cores, {}, load average at the end {}",
-        names.len(),
-        std::env::consts::ARCH,
-        load.join(" ")
-    )
+    format!("{name}, {} cores, {}", names.len(), std::env::consts::ARCH)
 }

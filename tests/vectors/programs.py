@@ -70,7 +70,7 @@ def live(n):
 
 
 def antigens(n, longer=0):
-    """The lines and the findings of n IE lines behind File E's first II that all name one antigen and have one number, so many of them longer
+    """The lines and the findings of n IE lines after File E's first II that all name one antigen and have one number, so many of them longer
     by a byte: a count of 01 is a count of 1. Rule 7 at IE 2 and rule 12 at IE 4, from the second on; the first has its own number, 3."""
     lines = [FIVE.replace(b"|1|", b"|01|") if i < longer else FIVE for i in range(n)]
     return lines, [(5 + i, field, rule) for i in range(1, n) for field, rule in ((2, 7), (4, 12))]
@@ -114,13 +114,13 @@ case("last-slot", "199 live events and one free slot", TODAY + E, numbers(0, add
 
 # 1, DATE: a first line of another form than eight digits and LF is no date
 case("no-input", "nothing on standard input, and no file by name", b"", numbers(1), codes=None, ledger=None)
-case("today-crlf", "CR LF behind the digits of today", b"20220930\r\n" + E, numbers(1))
+case("today-crlf", "CR LF after the digits of today", b"20220930\r\n" + E, numbers(1))
 case("today-no-lf", "eight digits and the end of the input", b"20220930", numbers(1))
 case("today-no-lf-file", "eight digits and the submission at once", b"20220930" + E, numbers(1))
 case("today-seven", "seven digits", b"2022093\n" + E, numbers(1))
 case("today-nine", "nine digits", b"202209300\n" + E, numbers(1))
 case("today-blank", "a blank before eight digits", b" 20220930\n" + E, numbers(1))
-case("today-blank-after", "a blank behind eight digits", b"20220930 \n" + E, numbers(1))
+case("today-blank-after", "a blank after eight digits", b"20220930 \n" + E, numbers(1))
 case("today-letter", "a letter among the digits", b"2022O930\n" + E, numbers(1))
 case("today-empty", "an empty first line", b"\n" + E, numbers(1))
 case("today-missing", "the submission alone", E, numbers(1))
@@ -161,7 +161,7 @@ case("ledger-7601", "200 free slots and a byte, 7,601 bytes", TODAY + E, numbers
 case("ledger-7600", "200 free slots, 7,600 bytes", TODAY + E, numbers(0, added=1), ledger=FREE * 200)
 case("ledger-7599", "200 free slots but for a byte", TODAY + E, numbers(4), ledger=(FREE * 200)[:-1])
 case("ledger-70000", "1,843 free slots, 70,034 bytes", TODAY + E, numbers(4), ledger=FREE * 1843)
-case("ledger-order", "a live event behind a free slot", TODAY + E, numbers(4), ledger=FREE + X)
+case("ledger-order", "a live event after a free slot", TODAY + E, numbers(4), ledger=FREE + X)
 case("ledger-twice", "one event live twice", TODAY + E, numbers(4), ledger=X + X)
 case("ledger-descends", "live events that descend", TODAY + E, numbers(4), ledger=Y + X)
 case("ledger-dirty", "a free slot with a byte in it", TODAY + E, numbers(4), ledger=FREE[:-1] + b" ")
@@ -173,7 +173,7 @@ case("no-lf", "P12: an IF without its LF", TODAY + E[:-1], numbers(5, line=8, ca
 case("cause-2", "a byte of 127 on line 2", TODAY + with_line(2, b"000001", b"00000\x7f"), numbers(5, line=2, cause=2))
 case("cause-2-cr", "two CR before an LF: the first is a byte of the line", TODAY + E.replace(b"\n", b"\r\r\n", 1), numbers(5, line=1, cause=2))
 case("cause-3", "line 3 does not end in a pipe", TODAY + E.replace(IP, IP + b" "), numbers(5, line=3, cause=3))
-case("cause-3-empty", "an empty line behind the last", TODAY + E + b"\n", numbers(5, line=9, cause=3))
+case("cause-3-empty", "an empty line after the last", TODAY + E + b"\n", numbers(5, line=9, cause=3))
 case("cause-4", "a record type in lower case", TODAY + with_line(4, b"II|", b"ii|"), numbers(5, line=4, cause=4))
 case("cause-5", "an IE of six fields", TODAY + with_line(5, b"|1|", b"|1||"), numbers(5, line=5, cause=5))
 case("cause-6", "an II without an IE: the next II may not stand there", TODAY + file_of(IV, IH, IP, FOUR, SIX, SEVEN, IF), numbers(5, line=5, cause=6))

@@ -71,7 +71,7 @@ def aside(paths):
         if os.path.exists(path):
             with open(path, encoding="utf-8") as file:
                 old[path] = file.read()
-            keep("proof-file.old.txt", old[path])
+            keep(path.replace("/", ".") + ".old.txt", old[path])
             os.remove(path)
     try:
         yield

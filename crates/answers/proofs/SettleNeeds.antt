@@ -21,29 +21,29 @@ use Rattle.answers.specs.declared.settle.Settled.{Settled}
 use Rattle.answers.specs.declared.settle.Settled.the-variants.{Done, NoRoom}
 use Rattle.answers.specs.Settled.{countsOf, hasRoom, settledOf, settledLedger, settledIndex}
 
--- renew_by
+-- update_by
 module _ (f : Text) (ix ix′ : List ℕ) (a : ℕ) (ex : ix′ ≡ over (partOf f 65 ix) ix) (ea : a ≡ length (partOf f 65 ix)) where
-  pub renew-adds : a ≤ length ix′
-  renew-adds = omega (arith, part-few f 65 ix, ap length ex, length-over (partOf f 65 ix) ix)
+  pub update-adds : a ≤ length ix′
+  update-adds = omega (arith, part-few f 65 ix, ap length ex, length-over (partOf f 65 ix) ix)
 
   pub renewed : (l l′ : Text) (ps : List ℕ) → l′ ≡ updated l f (take (a - 0) ix′) ps → l′ ≡ updated l f (partOf f 65 ix) ps
   renewed l l′ ps e =
       let p : take (a - 0) ix′ ≡ partOf f 65 ix = ap (take (a - 0)) ex ∙ over-taken (partOf f 65 ix) ix (a - 0) (omega arith) (part-few f 65 ix) in
       e ∙ ap (λ (gs : List ℕ). updated l f gs ps) p
 
-pub ruleset for-update-by = (needs, renew-adds, renewed)
+pub ruleset for-update-by = (needs, update-adds, renewed)
 
--- renew_in
+-- update_with_deletes
 module _ (f : Text) (ix out out′ : List ℕ) (d : ℕ) (eo : out′ ≡ over (partOf f 68 ix) out) (ed : d ≡ length (partOf f 68 ix)) (room : length ix ≤ length out) where
-  pub renew-deletes : d ≤ length out′
-  renew-deletes = omega (arith, part-few f 68 ix, ap length eo, length-over (partOf f 68 ix) out)
+  pub update-deletes : d ≤ length out′
+  update-deletes = omega (arith, part-few f 68 ix, ap length eo, length-over (partOf f 68 ix) out)
 
   pub renewed-in : (l l′ : Text) → l′ ≡ updated l f (partOf f 65 ix) (take (d - 0) out′) → l′ ≡ updated l f (partOf f 65 ix) (partOf f 68 ix)
   renewed-in l l′ e =
       let p : take (d - 0) out′ ≡ partOf f 68 ix = ap (take (d - 0)) eo ∙ over-taken (partOf f 68 ix) out (d - 0) (omega arith) (omega (arith, part-few f 68 ix)) in
       e ∙ ap (updated l f (partOf f 65 ix)) p
 
-pub ruleset for-update-with-deletes = (needs, renew-deletes, renewed-in)
+pub ruleset for-update-with-deletes = (needs, update-deletes, renewed-in)
 
 -- where all add, none changes and none deletes
 those-all : (p : ℕ → Bool) (xs : List ℕ) → length (those p xs) ≡ length xs → those p xs ≡ xs
@@ -86,7 +86,7 @@ module _ (f : Text) (ix : List ℕ) (a : ℕ) (ea : a ≡ length (partOf f 65 ix
   unfolding same orderOf
   no-delete = no-other 68 refl
 
-  -- renew
+  -- bring_up_to_date
   pub all-renewed : (l l′ : Text) → l′ ≡ updated l f ix [] → l′ ≡ updated l f (partOf f 65 ix) (partOf f 68 ix)
   all-renewed l l′ e = rw (all-add, no-delete) e
 

@@ -69,7 +69,7 @@ module _ (f l : Text) (s : Settles f l) where
   unfolding gs ds ledgerAfter added deleted
   updated-is r = updated-fit l f (partOf f 65 (indexOf f)) (partOf f 68 (indexOf f)) (is-fit r) ∙ ap (ledgerWith (length l)) (part-after f (liveIn l) 65 68)
 
--- settle_front
+-- settle_blocks
 pub front-size : (n : ℕ) (room : List ℕ) → n ≤ length room → n ≡ length (take n room)
 front-size n room h = sym (length-take-le n room h)
 

@@ -66,7 +66,7 @@ module _ (today : ℕ) (file book ledger area : Text) (d : Bool) (ed : d ≡ isD
 
 pub ruleset for-check = (needs, check-date, check-long, check-book, check-sound, check-on)
 
--- after_book
+-- from_ledger
 module _ (today : ℕ) (file book ledger area : Text) (v : LedgerValidity) (ev : v ≡ ledgerValid ledger) where
   ledger-says : (n : ℕ) → v ≡ the-ledger.Sound n → (ledgerOk ledger ≡ true) × (n ≡ length (liveIn ledger))
   unfolding ledgerValid
@@ -94,7 +94,7 @@ module _ (today : ℕ) (file book ledger area : Text) (v : LedgerValidity) (ev :
 
 pub ruleset for-from-ledger = (needs, ledger-bad, ledger-ready, ledger-on)
 
--- after_ledger
+-- from_shape
 module _ (today : ℕ) (file book ledger area : Text) (s : Shape) (es : s ≡ shapeOf file) where
   pub shape-fault : (n cause : ℕ) → s ≡ Fault n cause → left (BadShape n cause) ledger area ≡ afterLedger (lent today file book ledger area)
   unfolding afterLedger
@@ -150,7 +150,7 @@ module _ (today : ℕ) (file bytes ledger area : Text) (q : Sections) (live : �
   unfolding judgedOf
   judged-is right k size j e = e ∙ rw (can file right (ready .short) k size, by-look-up)
 
--- judge_all
+-- judge_into
 module _ (today : ℕ) (file bytes ledger area : Text) (j : Judged) (q : Sections) (live k : ℕ) (ej : j ≡ judgedOf today file bytes q ledger live k) (size : k ≡ 96154) (right : shapeOf file ≡ Right) (ready : Ready (lent today file (take (q .end) bytes) ledger area) q live) where
   pub tally-is : (b n m : ℕ) → j ≡ Done b n m → tally b n m ≡ tallyOf (lent today file (take (q .end) bytes) ledger area)
   unfolding tallyOf notImmunized
@@ -224,7 +224,7 @@ module _ (today : ℕ) (file book ledger area : Text) (t : Tally) (et : t ≡ ta
               };
         }
 
--- judge_all
+-- judge_into
 module _ (today : ℕ) (file bytes ledger area : Text) (j : Judged) (q : Sections) (live : ℕ) (room room′ : List ℕ) (ej : j ≡ judgedOf today file bytes q ledger live (length room)) (er : room′ ≡ builtIn file room) (size : length room ≡ 96154) (right : shapeOf file ≡ Right) (ready : Ready (lent today file (take (q .end) bytes) ledger area) q live) where
   pub tally-judges : (b n m : ℕ) → j ≡ Done b n m → Judges file ledger live (tally b n m) room′
   unfolding builtIn
@@ -237,7 +237,7 @@ module _ (today : ℕ) (file bytes ledger area : Text) (j : Judged) (q : Section
 
 pub ruleset for-judge-into = (needs, tally-is, tally-never, tally-area, tally-judges, never-judges)
 
--- judged_in
+-- judge_and_settle
 module _ (today : ℕ) (file book ledger area : Text) (t : Tally) (et : t ≡ tallyOf (lent today file book ledger area)) where
   module _ (area′ : Text) (ea : area′ ≡ areaAfter area (findings (lent today file book ledger area))) where
     pub with-findings : (t .findings ≡ 0 → ⊥) → left (Findings (t .findings)) ledger area′ ≡ judged (lent today file book ledger area)
@@ -261,7 +261,7 @@ module _ (file ledger : Text) (live : ℕ) (t : Tally) (room : List ℕ) (g : Ju
 
 pub ruleset for-judge-and-settle = (needs, with-findings, settled-on, judges-part, judges-settling)
 
--- judged_by
+-- judge_by_hash
 module _ (today : ℕ) (file book ledger area : Text) (q : Sections) (live : ℕ) (ready : Ready (lent today file book ledger area) q live) (room bytes : Text) (size : length room ≡ 327680) (e : bytes ≡ withHashTable book q room) where
   starts : take (q .end) bytes ≡ book
   starts = ap (take (q .end)) e ∙ hash-table-starts book q room (ready .book) (omega (arith, book-small book q (ready .book)))

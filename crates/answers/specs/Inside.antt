@@ -61,7 +61,7 @@ pub record Settling (file ledger : Text) (live : ℕ) (index : List ℕ) (not-im
   pub few : length index ≤ placesMost
   pub not-immunized-is : not-immunized ≡ howMany (isKind IN) (recs file)
 
--- judging leaves the index of the blocks at the front of a room, and where there are no findings the file can be settled
-pub record Judges (file ledger : Text) (live : ℕ) (t : Tally) (room : List ℕ) : Type 0 where
-  pub part : t .blocks ≤ length room
-  pub settling : t .findings ≡ 0 → Settling file ledger live (take (t .blocks) room) (t .«not_immunized»)
+-- judging leaves the index of the blocks at the front of a buffer, and where there are no findings the file can be settled
+pub record Judges (file ledger : Text) (live : ℕ) (t : Tally) (buffer : List ℕ) : Type 0 where
+  pub part : t .blocks ≤ length buffer
+  pub settling : t .findings ≡ 0 → Settling file ledger live (take (t .blocks) buffer) (t .«not_immunized»)

@@ -1,4 +1,5 @@
--- Working definitions: what settling the blocks of an index leaves, for any bytes and places that are lent: whether there was room, the ledger, and the index.
+-- Working definitions: what settling the blocks of an index leaves, for any bytes and places that are lent: whether there was room, the
+-- ledger, and the index.
 -- Assumes nothing.
 use Prim.Native.Nat.{ℕ, _+_}
 use mathlib.Core.Bool.{Bool, cond, _&&_}
@@ -13,22 +14,36 @@ use Rattle.answers.specs.declared.settle.Counts.{Counts}
 use Rattle.answers.specs.declared.settle.Settled.{Settled}
 use Rattle.answers.specs.declared.settle.Settled.the-variants.{Done, NoRoom}
 
+-- the submission types, by their letters
+abbrev pub addLetter : ℕ
+addLetter = 65
+
+abbrev pub changeLetter : ℕ
+changeLetter = 67
+
+abbrev pub deleteLetter : ℕ
+deleteLetter = 68
+
+-- the index with the places of those that add at its front
+abbrev pub addsFirst : Text → List ℕ → List ℕ
+addsFirst f ps = over (partOf f addLetter ps) ps
+
 -- the ledger brought up to date by the blocks at these places that add, and by those at others that delete
 abbrev pub updatedWith : Text → Text → List ℕ → List ℕ → Text
-updatedWith ledger f ps deletes = updated ledger f (partOf f 65 ps) deletes
+updatedWith ledger f ps deletes = updated ledger f (partOf f addLetter ps) deletes
 
 -- and by those of these places that delete
 abbrev pub updatedBy : Text → Text → List ℕ → Text
-updatedBy ledger f ps = updatedWith ledger f ps (partOf f 68 ps)
+updatedBy ledger f ps = updatedWith ledger f ps (partOf f deleteLetter ps)
 
 -- how many of the blocks at these places add, change and delete
 unfoldable pub countsOf : Text → List ℕ → Counts
-countsOf f ps = record { added = length (partOf f 65 ps); changed = length (partOf f 67 ps); deleted = length (partOf f 68 ps) }
+countsOf f ps = record { added = length (partOf f addLetter ps); changed = length (partOf f changeLetter ps); deleted = length (partOf f deleteLetter ps) }
 
 -- the places are not too many, and with n live events those that add have room in the ledger's slots and in those that the deletes free
 unfoldable pub hasRoom : Text → Text → ℕ → List ℕ → Bool
 hasRoom f ledger n ps =
-    leb (length ps) placesMost && leb (n + length (partOf f 65 ps)) (slotsIn ledger + length (partOf f 68 ps))
+    leb (length ps) placesMost && leb (n + length (partOf f addLetter ps)) (slotsIn ledger + length (partOf f deleteLetter ps))
 
 unfoldable pub settledOf : Text → Text → ℕ → List ℕ → Settled
 settledOf f ledger n ps = cond (hasRoom f ledger n ps) (Done (countsOf f ps)) NoRoom
@@ -39,4 +54,4 @@ settledLedger f ledger n ps = cond (hasRoom f ledger n ps) (updatedBy ledger f p
 
 -- the index after: the places of those that add at its front; as it was where there is no room
 unfoldable pub settledIndex : Text → Text → ℕ → List ℕ → List ℕ
-settledIndex f ledger n ps = cond (hasRoom f ledger n ps) (over (partOf f 65 ps) ps) ps
+settledIndex f ledger n ps = cond (hasRoom f ledger n ps) (addsFirst f ps) ps

@@ -5,8 +5,8 @@ ghost use mathlib.Core.Path.{_≡_};
 ghost use Prim.Native.Nat.{_≤_};
 ghost use lib.ListN.{length};
 ghost use Rattle.lines.specs.Sorted.{placesMost};
-ghost use Rattle.rules.specs.Firsts.{over, partOf};
-ghost use Rattle.answers.specs.Settled.{updatedWith, updatedBy, countsOf, settledOf, settledLedger, settledIndex};
+ghost use Rattle.rules.specs.Firsts.{partOf};
+ghost use Rattle.answers.specs.Settled.{addLetter, addsFirst, updatedWith, updatedBy, countsOf, settledOf, settledLedger, settledIndex};
 
 // How many blocks add, change and delete.
 pub(crate) struct Counts {
@@ -24,7 +24,7 @@ pub(crate) enum Settled {
 // Brings the ledger up to date by the index of the blocks and the places of those deleted. The index keeps the places of those added.
 fn update_by(file: &[u8], ledger: &mut [u8], index: &mut [u32], deletes: &[u32])
     ensures { λ _. ⌜ now (ledger .exit) ≡ updatedWith (now (ledger .entry)) (now (file .entry)) (now (index .entry)) (now (deletes .entry)) ⌝ }
-    ensures { λ _. ⌜ now (index .exit) ≡ over (partOf (now (file .entry)) 65 (now (index .entry))) (now (index .entry)) ⌝ }
+    ensures { λ _. ⌜ now (index .exit) ≡ addsFirst (now (file .entry)) (now (index .entry)) ⌝ }
 {
     let from = 0;
     let a = rules::keep(file, index, b'A');
@@ -35,7 +35,7 @@ fn update_by(file: &[u8], ledger: &mut [u8], index: &mut [u32], deletes: &[u32])
 fn update_with_deletes(file: &[u8], ledger: &mut [u8], index: &mut [u32], deletes: &mut [u32])
     requires { ⌜ length (now index) ≤ length (now deletes) ⌝ }
     ensures { λ _. ⌜ now (ledger .exit) ≡ updatedBy (now (ledger .entry)) (now (file .entry)) (now (index .entry)) ⌝ }
-    ensures { λ _. ⌜ now (index .exit) ≡ over (partOf (now (file .entry)) 65 (now (index .entry))) (now (index .entry)) ⌝ }
+    ensures { λ _. ⌜ now (index .exit) ≡ addsFirst (now (file .entry)) (now (index .entry)) ⌝ }
 {
     let from = 0;
     let d = rules::part_of(file, index, b'D', deletes);
@@ -46,7 +46,7 @@ fn update_with_deletes(file: &[u8], ledger: &mut [u8], index: &mut [u32], delete
 fn lend_delete_buffer(file: &[u8], ledger: &mut [u8], index: &mut [u32])
     requires { ⌜ length (now index) ≤ placesMost ⌝ }
     ensures { λ _. ⌜ now (ledger .exit) ≡ updatedBy (now (ledger .entry)) (now (file .entry)) (now (index .entry)) ⌝ }
-    ensures { λ _. ⌜ now (index .exit) ≡ over (partOf (now (file .entry)) 65 (now (index .entry))) (now (index .entry)) ⌝ }
+    ensures { λ _. ⌜ now (index .exit) ≡ addsFirst (now (file .entry)) (now (index .entry)) ⌝ }
 {
     let mut deletes = [0u32; MOST_PLACES];
     update_with_deletes(file, ledger, index, &mut deletes);
@@ -54,10 +54,10 @@ fn lend_delete_buffer(file: &[u8], ledger: &mut [u8], index: &mut [u32])
 
 // Brings the ledger up to date by the index of the blocks, so many of which add. Where all do, their places are the index as it is.
 fn bring_up_to_date(file: &[u8], ledger: &mut [u8], index: &mut [u32], added: usize)
-    requires { ⌜ added ≡ length (partOf (now file) 65 (now index)) ⌝ }
+    requires { ⌜ added ≡ length (partOf (now file) addLetter (now index)) ⌝ }
     requires { ⌜ length (now index) ≤ placesMost ⌝ }
     ensures { λ _. ⌜ now (ledger .exit) ≡ updatedBy (now (ledger .entry)) (now (file .entry)) (now (index .entry)) ⌝ }
-    ensures { λ _. ⌜ now (index .exit) ≡ over (partOf (now (file .entry)) 65 (now (index .entry))) (now (index .entry)) ⌝ }
+    ensures { λ _. ⌜ now (index .exit) ≡ addsFirst (now (file .entry)) (now (index .entry)) ⌝ }
 {
     if added == index.len() {
         let all = &index[..];
@@ -91,7 +91,8 @@ fn count_types(file: &[u8], index: &[u32]) -> Counts
     }
 }
 
-// How many blocks add, change and delete, if the index has no more places than can be sorted and the ledger, with so many live events, room for what they add.
+// How many blocks add, change and delete, if the index has no more places than can be sorted and the ledger, with so many live events, room
+// for what they add.
 fn room_for(file: &[u8], ledger: &[u8], live: usize, index: &[u32]) -> Settled
     ensures { λ r. ⌜ r ≡ settledOf (now (file .entry)) (now (ledger .entry)) live (now (index .entry)) ⌝ }
 {

@@ -18,28 +18,28 @@ use Rattle.house.specs.Text.{Text}
 use Rattle.house.proofs.Suffix.{drop-here, drop-past, rest, set-past, copy-more}
 use Rattle.book.specs.declared.Sections.{Sections}
 use Rattle.book.specs.Book.{firstWidth, secondWidth, codeWidth, bodyWidth, filled, codeText}
-use Rattle.book.specs.LookUp.{sectionStart, countIn, placeOf, hashOf, entryHashed, noteRow, noteRows, noteKinds, withHashTable}
+use Rattle.book.specs.LookUp.{sectionStart, countIn, placeOf, hashOf, entryHashed, hashEntry, hashEntries, hashKinds, withHashTable}
 use Rattle.book.proofs.SearchLaws.{count-from, probe-mul, probe-add, probe-body, probe-code}
 
 -- hashOf
 module _ (t : Text) (from h i : ℕ) (inv : hashOf from t ≡ hashOf h (drop i t)) where
   module _ (l : i < length t) where
-    pub mix-blank : getD t i 0 ≡ 32 → hashOf from t ≡ hashOf h (drop (i + 1) t)
+    pub hash-of-blank : getD t i 0 ≡ 32 → hashOf from t ≡ hashOf h (drop (i + 1) t)
     unfolding hashOf
-    mix-blank e = inv ∙ rw (drop-here t i l, eq-eqb _ _ e)
+    hash-of-blank e = inv ∙ rw (drop-here t i l, eq-eqb _ _ e)
 
-    pub mix-byte : (v : ℕ) → (getD t i 0 ≡ 32 → ⊥) → v ≡ getD t i 0 → hashOf from t ≡ hashOf ((h * 31 + v) % 32768) (drop (i + 1) t)
+    pub hash-of-byte : (v : ℕ) → (getD t i 0 ≡ 32 → ⊥) → v ≡ getD t i 0 → hashOf from t ≡ hashOf ((h * 31 + v) % 32768) (drop (i + 1) t)
     unfolding hashOf
-    mix-byte v e f = inv ∙ rw (drop-here t i l, ne-eqb _ _ e, ← f)
+    hash-of-byte v e f = inv ∙ rw (drop-here t i l, ne-eqb _ _ e, ← f)
 
-  pub mix-end : length t ≤ i → h ≡ hashOf from t
+  pub hash-of-end : length t ≤ i → h ≡ hashOf from t
   unfolding hashOf
-  mix-end l = sym (inv ∙ rw (drop-past t i l))
+  hash-of-end l = sym (inv ∙ rw (drop-past t i l))
 
-pub mix-low : (n : ℕ) → n % 32768 < 32768
-mix-low n = mod-lt n (omega arith)
+pub hash-of-low : (n : ℕ) → n % 32768 < 32768
+hash-of-low n = mod-lt n (omega arith)
 
-pub ruleset for-hash = (needs, mix-blank, mix-byte, mix-end, mix-low)
+pub ruleset for-hash = (needs, hash-of-blank, hash-of-byte, hash-of-end, hash-of-low)
 
 -- byte_at
 pub byte-past : (t : Text) (at : ℕ) → length t ≤ at → 0 ≡ getD t at 0
@@ -48,41 +48,41 @@ byte-past t at l = sym (List·getD-eq-default t 0 l)
 pub ruleset for-byte-at = (needs, byte-past)
 
 -- hashed: padding is not hashed
-mix-append : (h : ℕ) (x y : Text) → hashOf h (x ++ y) ≡ hashOf (hashOf h x) y
+hash-of-append : (h : ℕ) (x y : Text) → hashOf h (x ++ y) ≡ hashOf (hashOf h x) y
 unfolding hashOf
-mix-append h [] y = refl
-mix-append h (b ∷ x) y = go (eqb b 32) (mix-append h x y) (mix-append ((h * 31 + b) % 32768) x y)
+hash-of-append h [] y = refl
+hash-of-append h (b ∷ x) y = go (eqb b 32) (hash-of-append h x y) (hash-of-append ((h * 31 + b) % 32768) x y)
   where
     go : (r : Bool) → hashOf h (x ++ y) ≡ hashOf (hashOf h x) y → hashOf ((h * 31 + b) % 32768) (x ++ y) ≡ hashOf (hashOf ((h * 31 + b) % 32768) x) y → cond r (hashOf h (x ++ y)) (hashOf ((h * 31 + b) % 32768) (x ++ y)) ≡ hashOf (cond r (hashOf h x) (hashOf ((h * 31 + b) % 32768) x)) y
     go true e f = e
     go false e f = f
 
-mix-filled : (h w : ℕ) (t : Text) → hashOf h (filled w t) ≡ hashOf h t
+hash-of-filled : (h w : ℕ) (t : Text) → hashOf h (filled w t) ≡ hashOf h t
 unfolding hashOf
-mix-filled h zero t = refl
-mix-filled h (suc w) [] = mix-filled h w []
-mix-filled h (suc w) (b ∷ t) = rw (mix-filled h w t, mix-filled ((h * 31 + b) % 32768) w t)
+hash-of-filled h zero t = refl
+hash-of-filled h (suc w) [] = hash-of-filled h w []
+hash-of-filled h (suc w) (b ∷ t) = rw (hash-of-filled h w t, hash-of-filled ((h * 31 + b) % 32768) w t)
 
-mix-code : (k : ℕ) (a b : Text) → hashOf k (codeText k a b) ≡ hashOf (hashOf k a) b
+hash-of-code : (k : ℕ) (a b : Text) → hashOf k (codeText k a b) ≡ hashOf (hashOf k a) b
 unfolding codeText
-mix-code k a b = mix-append k (filled (firstWidth k) a) (filled (secondWidth k) b) ∙ rw (mix-filled k (firstWidth k) a, mix-filled (hashOf k a) (secondWidth k) b)
+hash-of-code k a b = hash-of-append k (filled (firstWidth k) a) (filled (secondWidth k) b) ∙ rw (hash-of-filled k (firstWidth k) a, hash-of-filled (hashOf k a) (secondWidth k) b)
 
 module _ (s : Text) (q : Sections) (k : ℕ) (a b : Text) where
-  pub guess-none : length s < q .end → 0 ≡ entryHashed s q k (codeText k a b)
+  pub entry-hashed-none : length s < q .end → 0 ≡ entryHashed s q k (codeText k a b)
   unfolding entryHashed
-  guess-none l = rw (drop-past s (q .end) (omega arith))
+  entry-hashed-none l = rw (drop-past s (q .end) (omega arith))
 
-  pub guess-is : (v f m : ℕ) → v ≡ k → f ≡ hashOf v a → m ≡ hashOf f b → (x y : ℕ) → x ≡ getD (take (length s - q .end) (drop (q .end) s)) (m * 2) 0 → y ≡ getD (take (length s - q .end) (drop (q .end) s)) (m * 2 + 1) 0
+  pub entry-hashed-is : (v f m : ℕ) → v ≡ k → f ≡ hashOf v a → m ≡ hashOf f b → (x y : ℕ) → x ≡ getD (take (length s - q .end) (drop (q .end) s)) (m * 2) 0 → y ≡ getD (take (length s - q .end) (drop (q .end) s)) (m * 2 + 1) 0
       → x + y * 256 ≡ entryHashed s q k (codeText k a b)
   unfolding entryHashed
-  guess-is v f m ev ef em x y ex ey = rw (mix-code k a b, ← ev, ← ef, ← em, ← rest s (q .end), ← ex, ← ey)
+  entry-hashed-is v f m ev ef em x y ex ey = rw (hash-of-code k a b, ← ev, ← ef, ← em, ← rest s (q .end), ← ex, ← ey)
 
-pub ruleset for-hashed = (needs, guess-none, guess-is)
+pub ruleset for-hashed = (needs, entry-hashed-none, entry-hashed-is)
 
 -- put_byte
 pub ruleset for-put-byte = (needs, set-past)
 
--- note_row
+-- hash_entry
 module _ (s : Text) (from n i w p q : ℕ) (h : i < n) (g : n * w ≤ length s - from) (v : p + q < w) (z : length s < 18446744073709551616) where
   pub row-first : from + i * w + 1 + p < 18446744073709551616
   row-first = omega (arith, probe-code s from n i w p q h g v)
@@ -92,8 +92,8 @@ module _ (s : Text) (from n i w p q : ℕ) (h : i < n) (g : n * w ≤ length s -
 
 pub row-noted : (s : Text) (k from i w p q : ℕ) (t u v : Text) (j m : ℕ) → w ≡ bodyWidth k + 1 → p ≡ firstWidth k → q ≡ secondWidth k
     → j ≡ k → m ≡ hashOf j (take (from + i * w + 1 + p + q - (from + i * w + 1)) (drop (from + i * w + 1) s))
-    → u ≡ set t (m * 2) (i % 256) → v ≡ set u (m * 2 + 1) (i / 256 % 256) → v ≡ noteRow s k from i t
-unfolding noteRow placeOf codeWidth
+    → u ≡ set t (m * 2) (i % 256) → v ≡ set u (m * 2 + 1) (i / 256 % 256) → v ≡ hashEntry s k from i t
+unfolding hashEntry placeOf codeWidth
 row-noted s k from i w p q t u v j m ew ep eq ej em eu ev =
     let n : from + i * w + 1 + p + q - (from + i * w + 1) ≡ p + q = omega arith in
     let e : m ≡ hashOf k (take (firstWidth k + secondWidth k) (drop (from + i * (bodyWidth k + 1) + 1) s)) = em ∙ rw (ej, n, ew, ep, eq) in
@@ -101,32 +101,32 @@ row-noted s k from i w p q t u v j m ew ep eq ej em eu ev =
 
 pub ruleset for-hash-entry = (needs, probe-mul, probe-add, probe-body, probe-code, row-first, row-second, row-noted)
 
--- note_rows
+-- hash_entries
 module _ (s : Text) (k from : ℕ) (t₀ : Text) where
-  pub rows-start : t₀ ≡ noteRows s k from 0 t₀
-  unfolding noteRows
+  pub rows-start : t₀ ≡ hashEntries s k from 0 t₀
+  unfolding hashEntries
   rows-start = refl
 
-  pub rows-on : (i : ℕ) (t u : Text) → t ≡ noteRows s k from i t₀ → u ≡ noteRow s k from i t → u ≡ noteRows s k from (i + 1) t₀
-  unfolding noteRows
+  pub rows-on : (i : ℕ) (t u : Text) → t ≡ hashEntries s k from i t₀ → u ≡ hashEntry s k from i t → u ≡ hashEntries s k from (i + 1) t₀
+  unfolding hashEntries
   rows-on i t u e f = rw (add-one, ← e) f
 
-  pub rows-end : (i n : ℕ) (t : Text) (q : Sections) → t ≡ noteRows s k from i t₀ → i ≤ n → n ≤ i → from ≡ sectionStart q k → n ≡ countIn s q k → t ≡ noteRows s k (sectionStart q k) (countIn s q k) t₀
+  pub rows-end : (i n : ℕ) (t : Text) (q : Sections) → t ≡ hashEntries s k from i t₀ → i ≤ n → n ≤ i → from ≡ sectionStart q k → n ≡ countIn s q k → t ≡ hashEntries s k (sectionStart q k) (countIn s q k) t₀
   rows-end i n t q e l m f g = let d : i ≡ n = omega arith in rw (← f, ← g, ← d) e
 
 pub ruleset for-hash-entries = (needs, count-from, rows-start, rows-on, rows-end)
 
--- note_kinds
+-- hash_kinds
 module _ (s : Text) (q : Sections) (t₀ : Text) where
-  pub kinds-start : t₀ ≡ noteKinds s q 0 t₀
-  unfolding noteKinds
+  pub kinds-start : t₀ ≡ hashKinds s q 0 t₀
+  unfolding hashKinds
   kinds-start = refl
 
-  pub kinds-on : (k : ℕ) (t u : Text) → t ≡ noteKinds s q k t₀ → u ≡ noteRows s (k + 1) (sectionStart q (k + 1)) (countIn s q (k + 1)) t → u ≡ noteKinds s q (k + 1) t₀
-  unfolding noteKinds
+  pub kinds-on : (k : ℕ) (t u : Text) → t ≡ hashKinds s q k t₀ → u ≡ hashEntries s (k + 1) (sectionStart q (k + 1)) (countIn s q (k + 1)) t → u ≡ hashKinds s q (k + 1) t₀
+  unfolding hashKinds
   kinds-on k t u e f = rw (add-one, ← e) (rw add-one at f)
 
-  pub kinds-end : (k : ℕ) (t : Text) → t ≡ noteKinds s q k t₀ → k ≤ 8 → 8 ≤ k → t ≡ noteKinds s q 8 t₀
+  pub kinds-end : (k : ℕ) (t : Text) → t ≡ hashKinds s q k t₀ → k ≤ 8 → 8 ≤ k → t ≡ hashKinds s q 8 t₀
   kinds-end k t e l m = let d : k ≡ 8 = omega arith in rw d at e
 
 pub ruleset for-hash-kinds = (needs, kinds-start, kinds-on, kinds-end)
@@ -141,28 +141,28 @@ module _ (s room old : Text) (i : ℕ) (e : room ≡ take i s ++ drop i old) whe
 
 pub ruleset for-copy-book = (needs, copy-on, copy-end)
 
--- guide
+-- hash_book
 module _ (s : Text) (q : Sections) (room : Text) where
-  pub guide-small : length room < length s → room ≡ withHashTable s q room
+  pub hash-book-small : length room < length s → room ≡ withHashTable s q room
   unfolding withHashTable
-  guide-small h = rw (lt-leb _ _ h)
+  hash-book-small h = rw (lt-leb _ _ h)
 
   module _ (h : length s ≤ length room) (u : Text) (e : u ≡ s ++ drop (length s) room) where
-    pub guide-part : length s ≤ length u
-    guide-part = rw e (omega (arith, length-append s (drop (length s) room)))
+    pub hash-book-part : length s ≤ length u
+    hash-book-part = rw e (omega (arith, length-append s (drop (length s) room)))
 
-    behind : drop (length s) u ≡ drop (length s) room
-    behind = rw e (drop-append-seam s (drop (length s) room))
+    afterFront : drop (length s) u ≡ drop (length s) room
+    afterFront = rw e (drop-append-seam s (drop (length s) room))
 
     size : length u - length s ≡ length (drop (length s) room)
     size = omega (arith, ap length e, length-append s (drop (length s) room))
 
-    pub guide-is : (t : Text) → t ≡ noteKinds s q 8 (take (length u - length s) (drop (length s) u)) → putMid (length s) (length u - length s) u t ≡ withHashTable s q room
+    pub hash-book-is : (t : Text) → t ≡ hashKinds s q 8 (take (length u - length s) (drop (length s) u)) → putMid (length s) (length u - length s) u t ≡ withHashTable s q room
     unfolding withHashTable
-    guide-is t f =
-        let all : take (length u - length s) (drop (length s) u) ≡ drop (length s) room = ap (take (length u - length s)) behind ∙ take-all (length u - length s) (drop (length s) room) (omega (arith, size)) in
-        let none : drop (length u - length s) (drop (length s) u) ≡ [] = ap (drop (length u - length s)) behind ∙ drop-past (drop (length s) room) (length u - length s) (omega (arith, size)) in
+    hash-book-is t f =
+        let all : take (length u - length s) (drop (length s) u) ≡ drop (length s) room = ap (take (length u - length s)) afterFront ∙ take-all (length u - length s) (drop (length s) room) (omega (arith, size)) in
+        let none : drop (length u - length s) (drop (length s) u) ≡ [] = ap (drop (length u - length s)) afterFront ∙ drop-past (drop (length s) room) (length u - length s) (omega (arith, size)) in
         let front : take (length s) u ≡ s = ap (take (length s)) e ∙ take-append-seam s (drop (length s) room) in
-        rw (le-leb _ _ h, none, front, append-nil) (ap (λ (x : Text). s ++ x) (f ∙ ap (noteKinds s q 8) all))
+        rw (le-leb _ _ h, none, front, append-nil) (ap (λ (x : Text). s ++ x) (f ∙ ap (hashKinds s q 8) all))
 
-pub ruleset for-hash-book = (needs, guide-small, guide-part, guide-is)
+pub ruleset for-hash-book = (needs, hash-book-small, hash-book-part, hash-book-is)

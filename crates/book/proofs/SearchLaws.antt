@@ -179,24 +179,24 @@ pub ruleset for-found-if = (needs, found-less, found-more, found-same)
 
 -- at_hash
 module _ (s : Text) (q : Sections) (k : ℕ) (a b : Text) (f : fits k a b ≡ true) (from n i : ℕ) (ef : from ≡ sectionStart q k) (en : n ≡ countIn s q k) (ei : i ≡ entryHashed s q k (codeText k a b)) where
-  pub guessed-past : n ≤ i → Absent ≡ hashedIn s q k (codeText k a b)
+  pub at-hash-past : n ≤ i → Absent ≡ hashedIn s q k (codeText k a b)
   unfolding hashedIn
-  guessed-past h = rw (← en, ← ei, le-ltb i n h)
+  at-hash-past h = rw (← en, ← ei, le-ltb i n h)
 
-  pub guessed-is : (r : Found) (o : Order) (at w p v : ℕ) → i < n → w ≡ bodyWidth k + 1 → p ≡ firstWidth k → v ≡ secondWidth k → at ≡ from + i * w → o ≡ codeOrder s (from + i * w + 1) p v a b → r ≡ foundIf o at → r ≡ hashedIn s q k (codeText k a b)
+  pub at-hash-is : (r : Found) (o : Order) (at w p v : ℕ) → i < n → w ≡ bodyWidth k + 1 → p ≡ firstWidth k → v ≡ secondWidth k → at ≡ from + i * w → o ≡ codeOrder s (from + i * w + 1) p v a b → r ≡ foundIf o at → r ≡ hashedIn s q k (codeText k a b)
   unfolding hashedIn orderAt placeOf codeOrder codePadded codeWidth
-  guessed-is r o at w p v h ew ep eq ea eo er =
+  at-hash-is r o at w p v h ew ep eq ea eo er =
       er ∙ rw (eo, ea, ← en, ← ei, lt-ltb i n h, ← ef, code-text k a b f, ew, ep, eq)
 
-pub ruleset for-at-hash = (needs, count-from, guessed-past, guessed-is)
+pub ruleset for-at-hash = (needs, count-from, at-hash-past, at-hash-is)
 
--- seek: what is left to binarySearch
+-- binary_search: what is left to search
 abbrev pub Seeks : Text → ℕ → ℕ → ℕ → Text → ℕ → ℕ → Type 0
 Seeks s k from n x lo hi = Halves (orderAt s k from x) (foundAt k from) Absent (binarySearch (orderAt s k from x) (foundAt k from) Absent n 0 n) lo hi
 
 module _ (s : Text) (k from n : ℕ) where
-  pub seek-start : (x : Text) → Seeks s k from n x 0 n
-  seek-start x = halves-start (orderAt s k from x) (foundAt k from) Absent n
+  pub search-start : (x : Text) → Seeks s k from n x 0 n
+  search-start x = halves-start (orderAt s k from x) (foundAt k from) Absent n
 
   module _ (lo hi : ℕ) (a b : Text) (inv : Seeks s k from n (codePadded k a b) lo hi) where
     module _ (h : lo < hi) (o : Order) (w p q : ℕ) (e : o ≡ codeOrder s (from + (lo + (hi - lo) / 2) * w + 1) p q a b) (ew : w ≡ bodyWidth k + 1) (ep : p ≡ firstWidth k) (eq : q ≡ secondWidth k) where
@@ -204,41 +204,41 @@ module _ (s : Text) (k from n : ℕ) where
       unfolding orderAt placeOf codePadded codeOrder codeWidth
       probed = rw (e, ew, ep, eq)
 
-      pub seek-up : o ≡ Less → Seeks s k from n (codePadded k a b) (lo + (hi - lo) / 2 + 1) hi
-      seek-up z = turn-up (orderAt s k from (codePadded k a b)) (foundAt k from) Absent (binarySearch (orderAt s k from (codePadded k a b)) (foundAt k from) Absent n 0 n) lo hi inv h o probed z
+      pub search-up : o ≡ Less → Seeks s k from n (codePadded k a b) (lo + (hi - lo) / 2 + 1) hi
+      search-up z = turn-up (orderAt s k from (codePadded k a b)) (foundAt k from) Absent (binarySearch (orderAt s k from (codePadded k a b)) (foundAt k from) Absent n 0 n) lo hi inv h o probed z
 
-      pub seek-down : o ≡ More → Seeks s k from n (codePadded k a b) lo (lo + (hi - lo) / 2)
-      seek-down z = turn-down (orderAt s k from (codePadded k a b)) (foundAt k from) Absent (binarySearch (orderAt s k from (codePadded k a b)) (foundAt k from) Absent n 0 n) lo hi inv h o probed z
+      pub search-down : o ≡ More → Seeks s k from n (codePadded k a b) lo (lo + (hi - lo) / 2)
+      search-down z = turn-down (orderAt s k from (codePadded k a b)) (foundAt k from) Absent (binarySearch (orderAt s k from (codePadded k a b)) (foundAt k from) Absent n 0 n) lo hi inv h o probed z
 
     module _ (j : Sections) (ef : from ≡ sectionStart j k) (en : n ≡ countIn s j k) (f : fits k a b ≡ true) where
       sought : binarySearch (orderAt s k from (codePadded k a b)) (foundAt k from) Absent n 0 n ≡ searchedIn s j k (codeText k a b)
       unfolding searchedIn
       sought = rw (ef, en, code-text k a b f)
 
-      pub seek-end : hi ≤ lo → Absent ≡ searchedIn s j k (codeText k a b)
-      seek-end h = halves-end (orderAt s k from (codePadded k a b)) (foundAt k from) Absent (binarySearch (orderAt s k from (codePadded k a b)) (foundAt k from) Absent n 0 n) lo hi inv h ∙ sought
+      pub search-end : hi ≤ lo → Absent ≡ searchedIn s j k (codeText k a b)
+      search-end h = halves-end (orderAt s k from (codePadded k a b)) (foundAt k from) Absent (binarySearch (orderAt s k from (codePadded k a b)) (foundAt k from) Absent n 0 n) lo hi inv h ∙ sought
 
-      pub seek-hit : (h : lo < hi) (o : Order) (at w p q : ℕ) → o ≡ codeOrder s (from + (lo + (hi - lo) / 2) * w + 1) p q a b → at ≡ from + (lo + (hi - lo) / 2) * w → w ≡ bodyWidth k + 1 → p ≡ firstWidth k → q ≡ secondWidth k → o ≡ Same → At (record { at = at }) ≡ searchedIn s j k (codeText k a b)
+      pub search-hit : (h : lo < hi) (o : Order) (at w p q : ℕ) → o ≡ codeOrder s (from + (lo + (hi - lo) / 2) * w + 1) p q a b → at ≡ from + (lo + (hi - lo) / 2) * w → w ≡ bodyWidth k + 1 → p ≡ firstWidth k → q ≡ secondWidth k → o ≡ Same → At (record { at = at }) ≡ searchedIn s j k (codeText k a b)
       unfolding foundAt placeOf
-      seek-hit h o at w p q e v ew ep eq z =
+      search-hit h o at w p q e v ew ep eq z =
           let r : at ≡ from + (lo + (hi - lo) / 2) * (bodyWidth k + 1) = v ∙ ap (λ (y : ℕ). from + (lo + (hi - lo) / 2) * y) ew in
           ap (λ (y : ℕ). At (record { at = y })) r
           ∙ turn-hit (orderAt s k from (codePadded k a b)) (foundAt k from) Absent (binarySearch (orderAt s k from (codePadded k a b)) (foundAt k from) Absent n 0 n) lo hi inv h o (probed h o w p q e ew ep eq) z
           ∙ sought
 
-pub ruleset for-binary-search = (needs, count-from, seek-start, seek-up, seek-down, seek-end, seek-hit)
+pub ruleset for-binary-search = (needs, count-from, search-start, search-up, search-down, search-end, search-hit)
 
 -- sought
 module _ (s : Text) (q : Sections) (k : ℕ) (a b : Text) (g : Found) (e : g ≡ hashedIn s q k (codeText k a b)) where
-  pub sought-guess : (p : Position) → g ≡ At p → At p ≡ soughtIn s q k (codeText k a b)
+  pub sought-hash : (p : Position) → g ≡ At p → At p ≡ soughtIn s q k (codeText k a b)
   unfolding soughtIn
-  sought-guess p h = rw (← e, h)
+  sought-hash p h = rw (← e, h)
 
-  pub sought-halves : g ≡ Absent → (r : Found) → r ≡ searchedIn s q k (codeText k a b) → r ≡ soughtIn s q k (codeText k a b)
+  pub sought-search : g ≡ Absent → (r : Found) → r ≡ searchedIn s q k (codeText k a b) → r ≡ soughtIn s q k (codeText k a b)
   unfolding soughtIn
-  sought-halves h r f = rw (← e, h) f
+  sought-search h r f = rw (← e, h) f
 
-pub ruleset for-sought = (needs, sought-guess, sought-halves)
+pub ruleset for-sought = (needs, sought-hash, sought-search)
 
 -- find
 module _ (s : Text) (q : Sections) (k : ℕ) (a b : Text) where

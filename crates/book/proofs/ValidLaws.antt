@@ -15,7 +15,7 @@ use Rattle.book.specs.declared.Sections.{Sections}
 use Rattle.book.specs.declared.Validity.{Validity}
 use Rattle.book.specs.declared.Validity.the-variants.{Valid, Malformed}
 use Rattle.book.specs.Book.{bodyWidth, entryOf, entries, bytesBefore, bookOk, sectionsOf, validOf, Sound}
-use Rattle.book.specs.LookUp.{noteKinds, withHashTable}
+use Rattle.book.specs.LookUp.{hashKinds, withHashTable}
 use Rattle.book.specs.Inside.{soundFrom}
 use Rattle.book.proofs.EntryLaws.{unroll, top-false}
 use Rattle.book.proofs.OrderlyLaws.{book-is}
@@ -57,4 +57,4 @@ book-small s q h = leb-true (length s) 262144 (both (leb (length s) 262144) (sou
 
 pub hash-table-starts : (s : Text) (q : Sections) (room : Text) → Sound s q → length s ≤ length room → take (q .end) (withHashTable s q room) ≡ s
 unfolding withHashTable
-hash-table-starts s q room h l = rw (le-leb _ _ l) (ap (λ (n : ℕ). take n (s ++ noteKinds s q 8 (drop (length s) room))) (end-is s q h) ∙ take-append-seam s (noteKinds s q 8 (drop (length s) room)))
+hash-table-starts s q room h l = rw (le-leb _ _ l) (ap (λ (n : ℕ). take n (s ++ hashKinds s q 8 (drop (length s) room))) (end-is s q h) ∙ take-append-seam s (hashKinds s q 8 (drop (length s) room)))

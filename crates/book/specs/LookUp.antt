@@ -1,4 +1,5 @@
--- Look-up in any bytes, by any sections: the entry that the hash of a code names is asked first, then a binary search goes on among the entries of one kind, which all
+-- Look-up in any bytes, by any sections: the entry that the hash of a code names is asked first, then a binary search goes on among the
+-- entries of one kind, which all
 -- have the same width. For bytes that start with a valid book, by its own sections, it says what the entries say, whatever the hash table
 -- (proofs/StandingLaws).
 -- Assumes nothing.
@@ -50,7 +51,8 @@ foundAt k from i = At (record { at = placeOf k from i })
 unfoldable pub fits : ℕ → Text → Text → Bool
 fits k a b = leb (length a) (firstWidth k) && leb (length b) (secondWidth k)
 
--- the number below 32768 that is the hash of a code, from h on, at first its kind: by its bytes other than blanks, so the same with and without padding
+-- the number below 32768 that is the hash of a code, from h on, at first its kind: by its bytes other than blanks, so the same with and
+-- without padding
 unfoldable pub hashOf : ℕ → Text → ℕ
 hashOf h [] = h
 hashOf h (b ∷ t) = cond (eqb b 32) (hashOf h t) (hashOf ((h * 31 + b) % 32768) t)
@@ -104,26 +106,26 @@ standingIn s q k a b d = standingAt s d (foundIn s q k a b)
 
 -- The hash table
 
--- entry i of those of kind k that start at `from`, noted in a table
-unfoldable pub noteRow : Text → ℕ → ℕ → ℕ → Text → Text
-noteRow s k from i t =
+-- entry i of those of kind k that start at `from`, put into a table
+unfoldable pub hashEntry : Text → ℕ → ℕ → ℕ → Text → Text
+hashEntry s k from i t =
     let at = hashOf k (take (codeWidth k) (drop (placeOf k from i + 1) s)) * 2 in
     set (set t at (i % 256)) (at + 1) (i / 256 % 256)
 
 -- the first n of them
-unfoldable pub noteRows : Text → ℕ → ℕ → ℕ → Text → Text
-noteRows s k from zero t = t
-noteRows s k from (suc n) t = noteRow s k from n (noteRows s k from n t)
+unfoldable pub hashEntries : Text → ℕ → ℕ → ℕ → Text → Text
+hashEntries s k from zero t = t
+hashEntries s k from (suc n) t = hashEntry s k from n (hashEntries s k from n t)
 
 -- all entries of kind k
-abbrev pub noteKind : Text → Sections → ℕ → Text → Text
-noteKind s q k t = noteRows s k (sectionStart q k) (countIn s q k) t
+abbrev pub hashKind : Text → Sections → ℕ → Text → Text
+hashKind s q k t = hashEntries s k (sectionStart q k) (countIn s q k) t
 
 -- the entries of the first kinds
-unfoldable pub noteKinds : Text → Sections → ℕ → Text → Text
-noteKinds s q zero t = t
-noteKinds s q (suc k) t = noteKind s q (suc k) (noteKinds s q k t)
+unfoldable pub hashKinds : Text → Sections → ℕ → Text → Text
+hashKinds s q zero t = t
+hashKinds s q (suc k) t = hashKind s q (suc k) (hashKinds s q k t)
 
--- a book at the front of a room, and its entries noted after it; the room as it is where it is too small for the book
+-- a book at the front of a buffer, and its hash table after it; the buffer as it is where it is too small for the book
 unfoldable pub withHashTable : Text → Sections → Text → Text
-withHashTable s q room = cond (leb (length s) (length room)) (s ++ noteKinds s q 8 (drop (length s) room)) room
+withHashTable s q buffer = cond (leb (length s) (length buffer)) (s ++ hashKinds s q 8 (drop (length s) buffer)) buffer

@@ -9,7 +9,7 @@ ghost use mathlib.Core.List.{_++_};
 ghost use Prim.Native.Nat.{_<_, _≤_, _+_, _-_, _*_};
 ghost use lib.ListN.{length, drop, set, getD};
 ghost use Rattle.book.specs.Book.{firstWidth, secondWidth, bodyWidth, codeText};
-ghost use Rattle.book.specs.LookUp.{hashOf, entryHashed, noteRow, noteKind, noteKinds, withHashTable};
+ghost use Rattle.book.specs.LookUp.{hashOf, entryHashed, hashEntry, hashKind, hashKinds, withHashTable};
 
 // A byte, as a number to reckon with.
 fn value(b: u8) -> usize
@@ -74,7 +74,7 @@ fn put_byte(table: &mut [u8], at: usize, b: u8)
     }
 }
 
-// Notes entry i of those of these widths and of kind k that start at `from`, of which there are n.
+// Hashes entry i of those of these widths and of kind k that start at `from`, of which there are n.
 fn hash_entry(book: &[u8], k: u8, from: usize, n: usize, i: usize, w: Widths, table: &mut [u8])
     requires { ⌜ i < n ⌝ }
     requires { ⌜ n * w .entry ≤ length (now book) - from ⌝ }
@@ -82,7 +82,7 @@ fn hash_entry(book: &[u8], k: u8, from: usize, n: usize, i: usize, w: Widths, ta
     requires { ⌜ w .entry ≡ bodyWidth k + 1 ⌝ }
     requires { ⌜ w .first ≡ firstWidth k ⌝ }
     requires { ⌜ w .second ≡ secondWidth k ⌝ }
-    ensures { λ _. ⌜ now (table .exit) ≡ noteRow (now (book .entry)) k from i (now (table .entry)) ⌝ }
+    ensures { λ _. ⌜ now (table .exit) ≡ hashEntry (now (book .entry)) k from i (now (table .entry)) ⌝ }
 {
     let code = from + i * w.entry + 1;
     let end = code + w.first + w.second;
@@ -91,10 +91,10 @@ fn hash_entry(book: &[u8], k: u8, from: usize, n: usize, i: usize, w: Widths, ta
     put_byte(table, at + 1, (i / 256 % 256) as u8);
 }
 
-// Notes the entries of kind k.
+// Hashes the entries of kind k.
 fn hash_entries(book: &[u8], sections: Sections, k: u8, table: &mut [u8])
     requires { ⌜ k ≤ 8 ⌝ }
-    ensures { λ _. ⌜ now (table .exit) ≡ noteKind (now (book .entry)) sections k (now (table .entry)) ⌝ }
+    ensures { λ _. ⌜ now (table .exit) ≡ hashKind (now (book .entry)) sections k (now (table .entry)) ⌝ }
 {
     let from = sections.start(k);
     let w = widths_of(k);
@@ -106,9 +106,9 @@ fn hash_entries(book: &[u8], sections: Sections, k: u8, table: &mut [u8])
     }
 }
 
-// Notes the entries of every kind.
+// Hashes the entries of every kind.
 fn hash_kinds(book: &[u8], sections: Sections, table: &mut [u8])
-    ensures { λ _. ⌜ now (table .exit) ≡ noteKinds (now (book .entry)) sections 8 (now (table .entry)) ⌝ }
+    ensures { λ _. ⌜ now (table .exit) ≡ hashKinds (now (book .entry)) sections 8 (now (table .entry)) ⌝ }
 {
     let mut k: u8 = 0;
     while k < 8 {
@@ -117,26 +117,26 @@ fn hash_kinds(book: &[u8], sections: Sections, table: &mut [u8])
     }
 }
 
-// Copies a book to the front of a room.
-fn copy_book(book: &[u8], room: &mut [u8])
-    requires { ⌜ length (now book) ≤ length (now room) ⌝ }
-    ensures { λ _. ⌜ now (room .exit) ≡ now (book .entry) ++ drop (length (now (book .entry))) (now (room .entry)) ⌝ }
+// Copies a book to the front of a buffer.
+fn copy_book(book: &[u8], buffer: &mut [u8])
+    requires { ⌜ length (now book) ≤ length (now buffer) ⌝ }
+    ensures { λ _. ⌜ now (buffer .exit) ≡ now (book .entry) ++ drop (length (now (book .entry))) (now (buffer .entry)) ⌝ }
 {
     let mut i = 0;
     while i < book.len() {
-        room[i] = book[i];
+        buffer[i] = book[i];
         i += 1;
     }
 }
 
-// Copies a book to the front of a room and notes its entries in what is left of it. Where the room is shorter than the book it stays as lent.
-pub fn hash_book(book: &[u8], sections: Sections, room: &mut [u8])
-    ensures { λ _. ⌜ now (room .exit) ≡ withHashTable (now (book .entry)) sections (now (room .entry)) ⌝ }
+// Copies a book to the front of a buffer and notes its entries in what is left of it. Where the buffer is shorter than the book it stays as lent.
+pub fn hash_book(book: &[u8], sections: Sections, buffer: &mut [u8])
+    ensures { λ _. ⌜ now (buffer .exit) ≡ withHashTable (now (book .entry)) sections (now (buffer .entry)) ⌝ }
 {
     let n = book.len();
-    if room.len() < n {
+    if buffer.len() < n {
         return;
     }
-    copy_book(book, room);
-    hash_kinds(book, sections, &mut room[n..]);
+    copy_book(book, buffer);
+    hash_kinds(book, sections, &mut buffer[n..]);
 }

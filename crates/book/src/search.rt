@@ -1,4 +1,5 @@
-// Look-up: the entry that the hash of a code names is asked first, then a binary search goes on among the entries of one kind, which all have the same width.
+// Look-up: the entry that the hash of a code names is asked first, then a binary search goes on among the entries of one kind, which all
+// have the same width.
 use crate::Found;
 use crate::Position;
 use crate::Sections;

@@ -162,9 +162,12 @@ OnlyFirst check = (ledger : Text) (s : Step) (ss : List Step)
     → (s .left .ledger ≡ ledger → ⊥)
     → ledgerAfterRun ledger (s ∷ ss) ≡ s .left .ledger
 
--- there is one that meets demand 2, so that it takes demand 3 to shut it out
+-- there is one that meets demand 2 and does apply a file, so that it takes demand 3 to shut it out
+abbrev pub Applies : Check → Type 0
+Applies check = (x : Lent) × (isAccepted (check x .answer) ≡ true) × (check x .ledger ≡ x .ledger → ⊥)
+
 abbrev pub OnlyFirstThere : Type 0
-OnlyFirstThere = (check : Check) × ((x : Lent) → Demand2 x (check x)) × OnlyFirst check
+OnlyFirstThere = (check : Check) × ((x : Lent) → Demand2 x (check x)) × OnlyFirst check × Applies check
 
 pub record UselessShutOut : Type 0 where
   pub refuses-all : (check : Check) → ((x : Lent) → Demand2 x (check x)) → RefusesAll check → ⊥

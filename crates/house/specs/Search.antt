@@ -12,7 +12,8 @@ module _ {B : Type 0} where
   byOrder Same l s m = s
   byOrder More l s m = m
 
-  -- rows lo to hi, fuel many at most: row i stands below what is sought, is it, and so gives place i, or stands above it; none where there are no rows
+  -- rows lo to hi, fuel many at most: row i stands below what is sought, is it, and so gives place i, or stands above it; none where there
+  -- are no rows
   unfoldable pub binarySearch : (ℕ → Order) → (ℕ → B) → B → ℕ → ℕ → ℕ → B
   binarySearch row place none zero lo hi = none
   binarySearch row place none (suc fuel) lo hi =

@@ -47,9 +47,9 @@ module _ {A : Type 0} where
   front p (x ∷ xs) = cond (p x) (x ∷ front p xs) []
 
   -- what follows that run
-  abbrev pub behind : (A → Bool) → List A → List A
-  behind p [] = []
-  behind p (x ∷ xs) = cond (p x) (behind p xs) (x ∷ xs)
+  abbrev pub afterFront : (A → Bool) → List A → List A
+  afterFront p [] = []
+  afterFront p (x ∷ xs) = cond (p x) (afterFront p xs) (x ∷ xs)
 
   abbrev pub isEmpty : List A → Bool
   isEmpty [] = true

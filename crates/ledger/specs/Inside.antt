@@ -64,7 +64,7 @@ pub record Fit (s f : Text) (adds deletes : List ℕ) : Type 0 where
   pub deleted : ascends (eventsAt f deletes) ≡ true
   pub room : length (eventsAfter (liveIn s) (eventsAt f adds) (eventsAt f deletes)) ≤ length s / slotBytes
 
--- the slots after those of the events of the lines at these places are merged with the first n; the slots from there on stay
+-- these slots, once the slots of the events of the lines at these places have been merged into the first n; from there on they stay
 abbrev pub mergedIn : List Text → ℕ → Text → List ℕ → List Text
 mergedIn ss n f adds = place whole (slotsFor f adds) (take n ss) ++ drop (n + length adds) ss
 

@@ -25,7 +25,7 @@ fn stands(ledger: &[u8], i: usize, key: [u8; Key::WIDTH]) -> Order
     ensures { λ r. ⌜ r ≡ orderOf (eventIn (now (ledger .entry)) i) key ⌝ }
 {
     let s = slot(ledger, i);
-    house::compare(&s[1..38], &key)
+    house::compare(&s[1..SLOT], &key)
 }
 
 // Whether an event is live: a binary search among the first slots, as many as are said to be live.

@@ -51,7 +51,7 @@ fn has_form(slot: &[u8]) -> bool
     ensures { λ r. ⌜ r ≡ slotForm (now (slot .entry)) ⌝ }
 {
     if is_live_slot(slot) {
-        is_event(&slot[1..38])
+        is_event(&slot[1..SLOT])
     } else {
         is_free_slot(slot)
     }

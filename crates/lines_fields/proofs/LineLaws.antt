@@ -148,17 +148,17 @@ no-text : (k : ℕ) → getD (linesOf []) k noLine .text ≡ lineOf [] .text
 unfolding linesOf lineOf
 no-text k = refl
 
-text-behind : (k : ℕ) (s : Text) → getD (linesOf s) k noLine .text ≡ lineOf (drop (linesLen k s) s) .text
+text-after-it : (k : ℕ) (s : Text) → getD (linesOf s) k noLine .text ≡ lineOf (drop (linesLen k s) s) .text
 unfolding linesLen
-text-behind zero [] = no-text 0
-text-behind zero (b ∷ s) = rw (lines-step (b ∷ s) (omega arith))
-text-behind (suc k) [] = simp drop-nil (no-text (suc k))
-text-behind (suc k) (b ∷ s) = rw (lines-step (b ∷ s) (omega arith)) (text-behind k (drop (lineLen (b ∷ s)) (b ∷ s)) ∙ rw drop-drop)
+text-after-it zero [] = no-text 0
+text-after-it zero (b ∷ s) = rw (lines-step (b ∷ s) (omega arith))
+text-after-it (suc k) [] = simp drop-nil (no-text (suc k))
+text-after-it (suc k) (b ∷ s) = rw (lines-step (b ∷ s) (omega arith)) (text-after-it k (drop (lineLen (b ∷ s)) (b ∷ s)) ∙ rw drop-drop)
 
 pub text-after : (s : Text) (n : ℕ) → (n ≡ 0 → ⊥) → textAt s n ≡ lineOf (drop (linesLen (n - 1) s) s) .text
 unfolding textAt
 text-after s zero z = absurd (z refl)
-text-after s (suc k) z = rw sub-one (text-behind k s)
+text-after s (suc k) z = rw sub-one (text-after-it k s)
 
 -- The line that starts at a position. The equation alone says where it lies
 pub line-is : (s : Text) (at : ℕ) (q : LineAt) → q ≡ lineAt at (drop at s) → LineIs s at q

@@ -20,25 +20,25 @@ use Rattle.lines_fields.proofs.FieldLaws.{fields-first, fields-none, fi
 use Rattle.lines_fields.proofs.CutLaws.{part-drop}
 
 -- a text after its first k fields
-abbrev behind : ℕ → Text → Text
-behind k t = drop (fieldsLen k t) t
+abbrev afterFront : ℕ → Text → Text
+afterFront k t = drop (fieldsLen k t) t
 
 -- field k + 1 of a text
 module _ (t : Text) (k : ℕ) (h : k < length (fieldsOf t)) where
-  closed : pipeLen (behind k t) < length (behind k t)
-  closed = go (ltb (pipeLen (behind k t)) (length (behind k t))) refl
+  closed : pipeLen (afterFront k t) < length (afterFront k t)
+  closed = go (ltb (pipeLen (afterFront k t)) (length (afterFront k t))) refl
     where
-      go : (b : Bool) → ltb (pipeLen (behind k t)) (length (behind k t)) ≡ b → pipeLen (behind k t) < length (behind k t)
+      go : (b : Bool) → ltb (pipeLen (afterFront k t)) (length (afterFront k t)) ≡ b → pipeLen (afterFront k t) < length (afterFront k t)
       go true e = ltb-true _ _ e
       go false e =
-          let n : length (fieldsOf (behind k t)) ≡ 0 = rw (fields-none (behind k t) (ltb-false _ _ e)) in
+          let n : length (fieldsOf (afterFront k t)) ≡ 0 = rw (fields-none (afterFront k t) (ltb-false _ _ e)) in
           absurd (omega (arith, n, ap length (fields-after k t), length-drop k (fieldsOf t)))
 
-  field-cut : getD (fieldsOf t) k [] ≡ take (pipeLen (behind k t)) (behind k t)
-  field-cut = field-first k t ∙ rw (fields-first (behind k t) closed)
+  field-cut : getD (fieldsOf t) k [] ≡ take (pipeLen (afterFront k t)) (afterFront k t)
+  field-cut = field-first k t ∙ rw (fields-first (afterFront k t) closed)
 
-  field-long : length (getD (fieldsOf t) k []) ≡ pipeLen (behind k t)
-  field-long = rw field-cut (length-take-le (pipeLen (behind k t)) (behind k t) (omega (arith, closed)))
+  field-long : length (getD (fieldsOf t) k []) ≡ pipeLen (afterFront k t)
+  field-long = rw field-cut (length-take-le (pipeLen (afterFront k t)) (afterFront k t) (omega (arith, closed)))
 
 -- what is cut out of the front of a text is cut out of the text
 front-cut : (v : Text) (l b p : ℕ) → p ≤ l - b → take p (drop b (take l v)) ≡ take p (drop b v)
@@ -48,9 +48,9 @@ front-cut v l b p h = rw (← part-drop v b l) (take-take p (l - b) (drop b v) h
 cut-there : (s t : Text) (a l k : ℕ) → t ≡ take l (drop a s) → length t ≡ l → k < length (fieldsOf t)
     → getD (fieldsOf t) k [] ≡ take (length (getD (fieldsOf t) k [])) (drop (a + fieldsLen k t) s)
 cut-there s t a l k e n h =
-    let q : pipeLen (behind k t) ≤ l - fieldsLen k t = omega (arith, closed t k h, length-drop (fieldsLen k t) t) in
+    let q : pipeLen (afterFront k t) ≤ l - fieldsLen k t = omega (arith, closed t k h, length-drop (fieldsLen k t) t) in
     rw (field-long t k h)
-    (field-cut t k h ∙ ap (λ (x : Text). take (pipeLen (behind k t)) (drop (fieldsLen k t) x)) e ∙ front-cut (drop a s) l (fieldsLen k t) (pipeLen (behind k t)) q ∙ rw drop-drop)
+    (field-cut t k h ∙ ap (λ (x : Text). take (pipeLen (afterFront k t)) (drop (fieldsLen k t) x)) e ∙ front-cut (drop a s) l (fieldsLen k t) (pipeLen (afterFront k t)) q ∙ rw drop-drop)
 
 position : (s : Text) (m k : ℕ) → fieldThere s (suc m) (suc k) ≡ true → fieldPosition s (suc m) (suc k) ≡ linesLen m s + fieldsLen k (textAt s (suc m))
 unfolding fieldPosition
@@ -67,7 +67,7 @@ position-cut s (suc m) (suc k) h =
 
 -- from where the field after k fields of a line starts, the line goes on with the fields that follow these
 module _ (s : Text) (at k a : ℕ) (p : a ≡ at + fieldsLen k (lineOf (drop at s) .text)) where
-  rest-on : lineOf (drop a s) .text ≡ behind k (lineOf (drop at s) .text)
+  rest-on : lineOf (drop a s) .text ≡ afterFront k (lineOf (drop at s) .text)
   unfolding textLen
   rest-on =
       ap (λ (n : ℕ). lineOf (drop n s) .text) p ∙ ap (λ (t : Text). lineOf t .text) (sym (drop-drop (fieldsLen k (lineOf (drop at s) .text)) at s))

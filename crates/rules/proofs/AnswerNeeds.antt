@@ -14,7 +14,7 @@ use Rattle.rules_definitions.specs.Seen.{Setting, Seen}
 use Rattle.rules_definitions.specs.Rules.{afterToday, beforeBirth, brokenAt}
 use Rattle.rules_forms.specs.TextLeaves.{valueOf}
 use Rattle.rules_forms.specs.FieldLeaves.{lowest, lowestIn}
-use Rattle.rules_plain.specs.PlainFields.{numberLater, uliLater, bornOf, dateLater}
+use Rattle.rules_plain.specs.PlainFields.{rule7By, rule6By, bornOf, rule8By}
 use Rattle.rules_fields.specs.declared.Broken.{Broken}
 use Rattle.rules.specs.Inside.{listed}
 use Rattle.rules_fields.specs.Fields.{broken}
@@ -46,35 +46,35 @@ module _ (b : Broken) (x : ℕ) (p : b ≡ broken x 0 0) (line : Text) (s : Sett
     plain-relaxed z = plain k f e (q ∙ by-relaxed k line t f d none y z) h
 
   -- field 2
-  module _ (k place : ℕ) (e : recordOf line ≡ k) (pv : v .place ≡ place) (t : Text) (d : t ≡ fieldOf line 2) (z : x ≡ lowestIn k false 2 t (numberLater (valueOf t) place))
+  module _ (k place : ℕ) (e : recordOf line ≡ k) (pv : v .place ≡ place) (t : Text) (d : t ≡ fieldOf line 2) (z : x ≡ lowestIn k false 2 t (rule7By (valueOf t) place))
       (o : eqb k II && within 9 15 2 ≡ false) where
     q : x ≡ numberRule k (recOf line) place
-    q = z ∙ by-either k line t 2 d (λ (u : Text). numberLater (valueOf u) place) false o
+    q = z ∙ by-either k line t 2 d (λ (u : Text). rule7By (valueOf u) place) false o
 
-    pub number-at : (isSound k (v .line) 2 ≡ true → isNumber (text (v .line) 2) ≡ true) → laterAt s v 2 ≡ sounds (v .line) k 2 (not (eqb (number (text (v .line) 2)) (v .place))) 7
+    pub rule7-number-at : (isSound k (v .line) 2 ≡ true → isNumber (text (v .line) 2) ≡ true) → laterAt s v 2 ≡ sounds (v .line) k 2 (not (eqb (number (text (v .line) 2)) (v .place))) 7
         → listed b ≡ brokenAt s v 2
-    number-at h m =
+    rule7-number-at h m =
         answer b x _ _ p
         (q ∙ ap (λ (l : Rec). numberRule k l place) (sym lv) ∙ ap (numberRule k (v .line)) (sym pv) ∙ number-is k (v .line) (v .place) h)
         (sound-at s v k 2 (kind-at k e) (not (eqb (number (text (v .line) 2)) (v .place))) 7 refl m)
 
 -- fields 3, and 6 or 5, of a line below an IP
 module _ (b : Broken) (x : ℕ) (p : b ≡ broken x 0 0) (line ip : Text) (s : Setting) (v : Seen) (lv : v .line ≡ recOf line) (iv : v .ip ≡ recOf ip) (k : ℕ) (e : recordOf line ≡ k) where
-  pub uli-at : (t : Text) → t ≡ fieldOf line 3 → eqb k II && within 9 15 3 ≡ false → x ≡ lowestIn k false 3 t (uliLater t (recOf ip)) → laterAt s v 3 ≡ sounds (v .line) k 3 (isSound IP (v .ip) 3 && not (same (text (v .line) 3) (text (v .ip) 3))) 6
+  pub rule6-uli-at : (t : Text) → t ≡ fieldOf line 3 → eqb k II && within 9 15 3 ≡ false → x ≡ lowestIn k false 3 t (rule6By t (recOf ip)) → laterAt s v 3 ≡ sounds (v .line) k 3 (isSound IP (v .ip) 3 && not (same (text (v .line) 3) (text (v .ip) 3))) 6
       → listed b ≡ brokenAt s v 3
-  unfolding uliLater
-  uli-at t d o z h =
-      answer b x _ _ p (z ∙ by-either k line t 3 d (λ (u : Text). uliLater u (recOf ip)) false o ∙ ap (λ (l : Rec). uliRule k l (recOf ip)) (sym lv) ∙ ap (uliRule k (v .line)) (sym iv))
+  unfolding rule6By
+  rule6-uli-at t d o z h =
+      answer b x _ _ p (z ∙ by-either k line t 3 d (λ (u : Text). rule6By u (recOf ip)) false o ∙ ap (λ (l : Rec). uliRule k l (recOf ip)) (sym lv) ∙ ap (uliRule k (v .line)) (sym iv))
       (sound-at s v k 3 (kind-at b x p line s v lv k e) (isSound IP (v .ip) 3 && not (same (text (v .line) 3) (text (v .ip) 3))) 6 refl h)
 
-  pub date-at : (born : ℕ) → bornOf (v .ip) ≡ born → (f today : ℕ) → s .today ≡ today → (t : Text) → t ≡ fieldOf line f → eqb k II && within 9 15 f ≡ false
-      → x ≡ lowestIn k false f t (dateLater t today born) → (isSound k (v .line) f ≡ true → isDate (text (v .line) f) ≡ true)
+  pub rule8-date-at : (born : ℕ) → bornOf (v .ip) ≡ born → (f today : ℕ) → s .today ≡ today → (t : Text) → t ≡ fieldOf line f → eqb k II && within 9 15 f ≡ false
+      → x ≡ lowestIn k false f t (rule8By t today born) → (isSound k (v .line) f ≡ true → isDate (text (v .line) f) ≡ true)
       → laterAt s v f ≡ sounds (v .line) k f (afterToday s v f || beforeBirth v f) 8 → listed b ≡ brokenAt s v f
   unfolding afterToday beforeBirth
-  date-at born bv f today tv t d o z i h =
+  rule8-date-at born bv f today tv t d o z i h =
       answer b x _ _ p
       (z
-      ∙ by-either k line t f d (λ (u : Text). dateLater u today born) false o
+      ∙ by-either k line t f d (λ (u : Text). rule8By u today born) false o
       ∙ ap (λ (l : Rec). dateRule k l f today born) (sym lv)
       ∙ ap (dateRule k (v .line) f today) (sym bv)
       ∙ ap (λ (n : ℕ). dateRule k (v .line) f n (bornOf (v .ip))) (sym tv)

@@ -15,9 +15,9 @@ use Rattle.rules_definitions.specs.Seen.{Setting, Seen}
 use Rattle.rules_definitions.specs.Rules.{brokenAt}
 use Rattle.rules_forms.specs.FieldLeaves.{lowest}
 use Rattle.rules.specs.Inside.{some, listed}
-use Rattle.rules_fields.specs.Fields.{broken, codeLater, rules16to18At}
+use Rattle.rules_fields.specs.Fields.{broken, rules4and5Of, rules16to18At}
 use Rattle.rules.specs.Fields.{laterAt}
-use Rattle.rules.proofs.Collapse.{when, one-rule, broken-split, sound-later, code-later, site-later, sounds, codes, sites, ledgers, iv-2, ii-4}
+use Rattle.rules.proofs.Collapse.{when, one-rule, broken-split, sound-later, rules4-and-5-later, rule4-site-later, sounds, codes, sites, ledgers, rule3-iv2, ii-4}
 
 -- at most two more rules, none of which is rule 0
 two-more : (p q : Bool) (m n : ℕ) → eqb m 0 ≡ false → eqb n 0 ≡ false → when p m ++ (when q n ++ []) ≡ some (cond p m 0) ++ some (cond q n 0)
@@ -50,33 +50,33 @@ module _ (s : Setting) (v : Seen) (k f : ℕ) (e : v .line .kind ≡ k) where
 
   -- a code's rules, and up to two more
   module _ (known out : Bool) where
-    pub code-at : laterAt s v f ≡ codes l k f known out [] → brokenAt s v f ≡ listed (broken (lowest k l f (codeLater (isEmpty (text l f)) known out)) 0 0)
+    pub code-at : laterAt s v f ≡ codes l k f known out [] → brokenAt s v f ≡ listed (broken (lowest k l f (rules4and5Of (isEmpty (text l f)) known out)) 0 0)
     unfolding listed
-    code-at h = at-split ∙ rw h (code-later k l f [] known out)
+    code-at h = at-split ∙ rw h (rules4-and-5-later k l f [] known out)
 
     pub code-more : (p : Bool) (m : ℕ) → eqb m 0 ≡ false → laterAt s v f ≡ codes l k f known out (when p m ++ [])
-        → brokenAt s v f ≡ listed (broken (lowest k l f (codeLater (isEmpty (text l f)) known out)) (cond p m 0) 0)
+        → brokenAt s v f ≡ listed (broken (lowest k l f (rules4and5Of (isEmpty (text l f)) known out)) (cond p m 0) 0)
     unfolding listed
-    code-more p m z h = at-split ∙ rw h (code-later k l f (when p m ++ []) known out ∙ rw (one-more p m z))
+    code-more p m z h = at-split ∙ rw h (rules4-and-5-later k l f (when p m ++ []) known out ∙ rw (one-more p m z))
 
     pub code-two : (p q : Bool) (m n : ℕ) → eqb m 0 ≡ false → eqb n 0 ≡ false → laterAt s v f ≡ codes l k f known out (when p m ++ (when q n ++ []))
-        → brokenAt s v f ≡ listed (broken (lowest k l f (codeLater (isEmpty (text l f)) known out)) (cond p m 0) (cond q n 0))
+        → brokenAt s v f ≡ listed (broken (lowest k l f (rules4and5Of (isEmpty (text l f)) known out)) (cond p m 0) (cond q n 0))
     unfolding listed
-    code-two p q m n z w h = at-split ∙ rw h (code-later k l f (when p m ++ (when q n ++ [])) known out ∙ rw (two-more p q m n z w))
+    code-two p q m n z w h = at-split ∙ rw h (rules4-and-5-later k l f (when p m ++ (when q n ++ [])) known out ∙ rw (two-more p q m n z w))
 
 -- a site's or a method's rules, and two more
 pub site-two : (s : Setting) (v : Seen) (f : ℕ) → v .line .kind ≡ II → (known p q : Bool) (m n : ℕ) → eqb m 0 ≡ false → eqb n 0 ≡ false
     → laterAt s v f ≡ sites (v .line) f known (when p m ++ (when q n ++ []))
-    → brokenAt s v f ≡ listed (broken (lowest II (v .line) f (codeLater (isEmpty (text (v .line) f)) known false)) (cond p m 0) (cond q n 0))
+    → brokenAt s v f ≡ listed (broken (lowest II (v .line) f (rules4and5Of (isEmpty (text (v .line) f)) known false)) (cond p m 0) (cond q n 0))
 unfolding listed
 site-two s v f e known p q m n z w h =
-    at-split s v II f e ∙ rw h (site-later II (v .line) f (when p m ++ (when q n ++ [])) known ∙ rw (two-more p q m n z w))
+    at-split s v II f e ∙ rw h (rule4-site-later II (v .line) f (when p m ++ (when q n ++ [])) known ∙ rw (two-more p q m n z w))
 
 -- IV 2: no version is both given and sound where the field is empty
 pub version-at : (s : Setting) (v : Seen) → v .line .kind ≡ IV
     → brokenAt s v 2 ≡ listed (broken (lowest IV (v .line) 2 (cond (not (same (text (v .line) 2) (bytes "7.2"))) 3 0)) 0 0)
 unfolding listed lowest isGiven isSound isMissing isMisformed isJudged isOptional formOf table anything
-version-at s v e = at-split s v IV 2 e ∙ rw (iv-2 s v e) (go (isEmpty (text (v .line) 2)) (not (same (text (v .line) 2) (bytes "7.2"))))
+version-at s v e = at-split s v IV 2 e ∙ rw (rule3-iv2 s v e) (go (isEmpty (text (v .line) 2)) (not (same (text (v .line) 2) (bytes "7.2"))))
   where
     go : (e p : Bool) → some (cond e 1 0) ++ (when (not e && true && not e && p) 3 ++ []) ≡ some (cond e 1 (cond p 3 0)) ++ []
     go true p = refl

@@ -21,7 +21,7 @@ use Rattle.rules_fields.specs.declared.Broken.{Broken}
 use Rattle.rules_fields.specs.declared.Day.{Day}
 use Rattle.rules.specs.Inside.{listed}
 use Rattle.rules_fields.specs.Look.{knownBy, forceBy}
-use Rattle.rules_fields.specs.Fields.{broken, codeLater}
+use Rattle.rules_fields.specs.Fields.{broken, rules4and5Of}
 use Rattle.rules.specs.Fields.{laterAt, DayIs, Looks}
 use Rattle.rules.proofs.Collapse.{codes}
 use Rattle.rules.proofs.AtLaws.{code-at}
@@ -31,7 +31,7 @@ use Rattle.rules.proofs.AnswerNeeds.{answer, kind-at}
 -- rules 4 and 5 by a field's text, which is read as code c
 abbrev pub codeOf : ℕ → Text → Text → Sections → Day → Text → ℕ
 codeOf of c book q day u =
-    codeLater (isEmpty u) (knownBy book q of (codeText of c [])) (day .sound && not (forceBy book q (day .number) of (codeText of c [])))
+    rules4and5Of (isEmpty u) (knownBy book q of (codeText of c [])) (day .sound && not (forceBy book q (day .number) of (codeText of c [])))
 
 module _ (s : Setting) (v : Seen) (today : ℕ) (book : Text) (q : Sections) (day : Day) (ls : Looks today book q s) (d : DayIs day v) (of : ℕ) (c y : Text) (ce : c ≡ y) where
   pub known-same : knownBy book q of y ≡ s .known of c
@@ -53,20 +53,20 @@ module _ (s : Setting) (v : Seen) (today : ℕ) (book : Text) (q : Sections) (da
 module _ (x : ℕ) (line : Text) (s : Setting) (v : Seen) (lv : v .line ≡ recOf line)
     (today : ℕ) (book : Text) (q : Sections) (day : Day) (ls : Looks today book q s) (d : DayIs day v) (k f of : ℕ) (t : Text) where
   pub code-read : codeIn k (v .line) f ≡ codeText of t []
-      → x ≡ lowest k (recOf line) f (codeLater (isEmpty (text (recOf line) f)) (knownBy book q of (codeText of t [])) (day .sound && not (forceBy book q (day .number) of (codeText of t []))))
-      → x ≡ lowest k (v .line) f (codeLater (isEmpty (text (v .line) f)) (s .known of (codeIn k (v .line) f)) (dayIsSound v && not (isInForce s v of (codeIn k (v .line) f))))
+      → x ≡ lowest k (recOf line) f (rules4and5Of (isEmpty (text (recOf line) f)) (knownBy book q of (codeText of t [])) (day .sound && not (forceBy book q (day .number) of (codeText of t []))))
+      → x ≡ lowest k (v .line) f (rules4and5Of (isEmpty (text (v .line) f)) (s .known of (codeIn k (v .line) f)) (dayIsSound v && not (isInForce s v of (codeIn k (v .line) f))))
   code-read re z =
       z
-      ∙ ap (λ (l : Rec). lowest k l f (codeLater (isEmpty (text l f)) (knownBy book q of (codeText of t [])) (day .sound && not (forceBy book q (day .number) of (codeText of t []))))) (sym lv)
-      ∙ ap (λ (u : Bool). lowest k (v .line) f (codeLater (isEmpty (text (v .line) f)) u (day .sound && not (forceBy book q (day .number) of (codeText of t [])))))
+      ∙ ap (λ (l : Rec). lowest k l f (rules4and5Of (isEmpty (text l f)) (knownBy book q of (codeText of t [])) (day .sound && not (forceBy book q (day .number) of (codeText of t []))))) (sym lv)
+      ∙ ap (λ (u : Bool). lowest k (v .line) f (rules4and5Of (isEmpty (text (v .line) f)) u (day .sound && not (forceBy book q (day .number) of (codeText of t [])))))
       (known-same s v today book q day ls d of (codeIn k (v .line) f) (codeText of t []) re)
-      ∙ ap (λ (u : Bool). lowest k (v .line) f (codeLater (isEmpty (text (v .line) f)) (s .known of (codeIn k (v .line) f)) u))
+      ∙ ap (λ (u : Bool). lowest k (v .line) f (rules4and5Of (isEmpty (text (v .line) f)) (s .known of (codeIn k (v .line) f)) u))
       (force-same s v today book q day ls d of (codeIn k (v .line) f) (codeText of t []) re)
 
   -- the field's text itself
   pub code-is : (y : Bool) → t ≡ fieldOf line f → codeIn k (v .line) f ≡ codeText of (text (v .line) f) [] → x ≡ lowestIn k y f t (codeOf of t book q day t)
       → (eqb k II && within 9 15 f ≡ false) ⊎ (y ≡ isRelaxed (recOf line))
-      → x ≡ lowest k (v .line) f (codeLater (isEmpty (text (v .line) f)) (s .known of (codeIn k (v .line) f)) (dayIsSound v && not (isInForce s v of (codeIn k (v .line) f))))
+      → x ≡ lowest k (v .line) f (rules4and5Of (isEmpty (text (v .line) f)) (s .known of (codeIn k (v .line) f)) (dayIsSound v && not (isInForce s v of (codeIn k (v .line) f))))
   code-is y pt ce z w = code-read (ce ∙ ap (λ (u : Text). codeText of u []) (ap (λ (l : Rec). text l f) lv ∙ text-is line f ∙ sym pt)) (z ∙ go w)
     where
       go : (eqb k II && within 9 15 f ≡ false) ⊎ (y ≡ isRelaxed (recOf line))
@@ -76,7 +76,7 @@ module _ (x : ℕ) (line : Text) (s : Setting) (v : Seen) (lv : v .line ≡ recO
 
 -- at a field with these rules alone
 pub code-need : (b : Broken) (x : ℕ) → b ≡ broken x 0 0 → (line : Text) (s : Setting) (v : Seen) → v .line ≡ recOf line → (k f of : ℕ) → recordOf line ≡ k
-    → x ≡ lowest k (v .line) f (codeLater (isEmpty (text (v .line) f)) (s .known of (codeIn k (v .line) f)) (dayIsSound v && not (isInForce s v of (codeIn k (v .line) f))))
+    → x ≡ lowest k (v .line) f (rules4and5Of (isEmpty (text (v .line) f)) (s .known of (codeIn k (v .line) f)) (dayIsSound v && not (isInForce s v of (codeIn k (v .line) f))))
     → laterAt s v f ≡ codes (v .line) k f (s .known of (codeIn k (v .line) f)) (dayIsSound v && not (isInForce s v of (codeIn k (v .line) f))) []
     → listed b ≡ brokenAt s v f
 code-need b x p line s v lv k f of e z h =

@@ -18,7 +18,7 @@ use Rattle.rules_definitions.specs.Codes.{isSite, isMethod, bookKind, isCodeFie
 use Rattle.rules_definitions.specs.Rules.{rule1, rule2, rule3, rule4, rule5, rule6, rule7, rule8, rule9, rule10, rule11, rule12, rule13, rule14, rule15, rule16, rule17, rule18, asks, afterToday, beforeBirth, sameLot, rules, rulesIn, rulesOf, brokenAt}
 use Rattle.rules.specs.Inside.{some}
 use Rattle.rules_forms.specs.FieldLeaves.{lowest}
-use Rattle.rules_fields.specs.Fields.{codeLater}
+use Rattle.rules_fields.specs.Fields.{rules4and5Of}
 use Rattle.rules.specs.Fields.{laterAt}
 
 abbrev pub when : Bool → ℕ → List ℕ
@@ -66,11 +66,11 @@ module _ (k : ℕ) (l : Rec) (f : ℕ) (rest : List ℕ) where
       go false false false = refl
 
   -- rules 4 and 5, of a code that is known or not, out of force or not
-  pub code-later : (known out : Bool)
+  pub rules4-and-5-later : (known out : Bool)
       → some (lowest k l f 0) ++ (when (isGiven k l f && not (isGiven k l f && known)) 4 ++ (when (isGiven k l f && known && out) 5 ++ rest))
-      ≡ some (lowest k l f (codeLater (isEmpty (text l f)) known out)) ++ rest
-  unfolding lowest isGiven isSound codeLater
-  code-later known out = go (isMissing k l f) (isMisformed k l f) (isEmpty (text l f)) known out
+      ≡ some (lowest k l f (rules4and5Of (isEmpty (text l f)) known out)) ++ rest
+  unfolding lowest isGiven isSound rules4and5Of
+  rules4-and-5-later known out = go (isMissing k l f) (isMisformed k l f) (isEmpty (text l f)) known out
     where
       go : (m w e known out : Bool)
           → some (cond m 1 (cond w 2 0)) ++ (when (not m && not w && not e && not (not m && not w && not e && known)) 4 ++ (when (not m && not w && not e && known && out) 5 ++ rest))
@@ -83,10 +83,10 @@ module _ (k : ℕ) (l : Rec) (f : ℕ) (rest : List ℕ) where
       go false false false false out = refl
 
   -- rule 4 alone, of a site or a method
-  pub site-later : (known : Bool)
-      → some (lowest k l f 0) ++ (when (isGiven k l f && not (isGiven k l f && known)) 4 ++ rest) ≡ some (lowest k l f (codeLater (isEmpty (text l f)) known false)) ++ rest
-  unfolding lowest isGiven isSound codeLater
-  site-later known = go (isMissing k l f) (isMisformed k l f) (isEmpty (text l f)) known
+  pub rule4-site-later : (known : Bool)
+      → some (lowest k l f 0) ++ (when (isGiven k l f && not (isGiven k l f && known)) 4 ++ rest) ≡ some (lowest k l f (rules4and5Of (isEmpty (text l f)) known false)) ++ rest
+  unfolding lowest isGiven isSound rules4and5Of
+  rule4-site-later known = go (isMissing k l f) (isMisformed k l f) (isEmpty (text l f)) known
     where
       go : (m w e known : Bool)
           → some (cond m 1 (cond w 2 0)) ++ (when (not m && not w && not e && not (not m && not w && not e && known)) 4 ++ rest)
@@ -126,9 +126,9 @@ module _ (s : Setting) (v : Seen) where
   abbrev L : Rec
   L = v .line
 
-  pub iv-2 : v .line .kind ≡ IV → laterAt s v 2 ≡ when (isGiven IV L 2 && not (same (text L 2) (bytes "7.2"))) 3 ++ []
+  pub rule3-iv2 : v .line .kind ≡ IV → laterAt s v 2 ≡ when (isGiven IV L 2 && not (same (text L 2) (bytes "7.2"))) 3 ++ []
   unfolding laterAt rulesOf rulesIn rules rule3 rule4 rule5 rule6 rule7 rule8 rule9 rule10 rule11 rule12 rule13 rule14 rule15 rule16 rule17 rule18 asks isNumbered isCodeField bookKind isKnown
-  iv-2 k = rw k
+  rule3-iv2 k = rw k
 
   pub ip-2 : v .line .kind ≡ IP → laterAt s v 2 ≡ sounds L IP 2 (not (eqb (number (text L 2)) (v .place))) 7
   unfolding laterAt rulesOf rulesIn rules rule3 rule4 rule5 rule6 rule7 rule8 rule9 rule10 rule11 rule12 rule13 rule14 rule15 rule16 rule17 rule18 asks isNumbered isCodeField bookKind isKnown

@@ -19,7 +19,7 @@ use Rattle.rules_definitions.specs.Rules.{sameAntigen, rule11, rule12, brokenAt
 use Rattle.rules_forms.specs.TextLeaves.{valueOf}
 use Rattle.rules_forms.specs.FieldLeaves.{lowestIn, soundAs}
 use Rattle.rules_lists.specs.Among.{antigenIs}
-use Rattle.rules_plain.specs.PlainFields.{numberLater, uliLater}
+use Rattle.rules_plain.specs.PlainFields.{rule7By, rule6By}
 use Rattle.rules_forms.proofs.FieldLaws.{text-is, lowest-either, sound-as}
 use Rattle.rules_lists.proofs.ListLaws.{antigens-are}
 use Rattle.rules_fields.specs.declared.Broken.{Broken}
@@ -31,7 +31,7 @@ use Rattle.rules.proofs.Collapse.{ie-2, ie-3, ie-4, ie-rest}
 use Rattle.rules.proofs.AtLaws.{code-two}
 use Rattle.rules.proofs.RuleLaws.{any-reverse, rule11-ie4, rule12-ie4}
 use Rattle.rules.proofs.LowestLaws.{mandatory}
-use Rattle.rules.proofs.AnswerNeeds.{kind-at, plain-either, number-at, uli-at}
+use Rattle.rules.proofs.AnswerNeeds.{kind-at, plain-either, rule7-number-at, rule6-uli-at}
 use Rattle.rules.proofs.CodeNeeds.{known-same, force-same, code-is}
 
 -- RULE 11
@@ -64,17 +64,17 @@ three-same a a2 b b2 c c2 p q r = rw (p, q, r)
 
 module _ (line t ip head since book : Text) (q : Sections) (place born : ℕ) (day : Day) (today f : ℕ) (b : Broken) (dt : t ≡ fieldOf line f) (e : recordOf line ≡ 5) where
   module _ (x : ℕ) (p : b ≡ broken x 0 0) where
-    pub need-ie-2 : f ≡ 2 → x ≡ lowestIn 5 false 2 t (numberLater (valueOf t) place)
+    pub need-ie-2 : f ≡ 2 → x ≡ lowestIn 5 false 2 t (rule7By (valueOf t) place)
         → (s : Setting) (v : Seen) → Looks today book q s → Shows place born line ip v → DayIs day v → v .head ≡ recOf head → v .antigens ≡ reverse (recs since) → listed b ≡ brokenAt s v f
     unfolding isJudged isOptional formOf table
     need-ie-2 h z s v ls sh d hv av =
         rw h
-        (number-at b x p line s v (sh .line-is) 5 place e (sh .place-is) t (dt ∙ ap (fieldOf line) h) z refl (mandatory 5 (v .line) 2 (isNumber (text (v .line) 2)) refl refl refl)
+        (rule7-number-at b x p line s v (sh .line-is) 5 place e (sh .place-is) t (dt ∙ ap (fieldOf line) h) z refl (mandatory 5 (v .line) 2 (isNumber (text (v .line) 2)) refl refl refl)
         (ie-2 s v (kind-at b x p line s v (sh .line-is) 5 e)))
 
-    pub need-ie-3 : f ≡ 3 → x ≡ lowestIn 5 false 3 t (uliLater t (recOf ip))
+    pub need-ie-3 : f ≡ 3 → x ≡ lowestIn 5 false 3 t (rule6By t (recOf ip))
         → (s : Setting) (v : Seen) → Looks today book q s → Shows place born line ip v → DayIs day v → v .head ≡ recOf head → v .antigens ≡ reverse (recs since) → listed b ≡ brokenAt s v f
-    need-ie-3 h z s v ls sh d hv av = rw h (uli-at b x p line ip s v (sh .line-is) (sh .ip-is) 5 e t (dt ∙ ap (fieldOf line) h) refl z (ie-3 s v (kind-at b x p line s v (sh .line-is) 5 e)))
+    need-ie-3 h z s v ls sh d hv av = rw h (rule6-uli-at b x p line ip s v (sh .line-is) (sh .ip-is) 5 e t (dt ∙ ap (fieldOf line) h) refl z (ie-3 s v (kind-at b x p line s v (sh .line-is) 5 e)))
 
     pub need-ie-rest : (f ≡ 2 → ⊥) → (f ≡ 3 → ⊥) → (f ≡ 4 → ⊥) → x ≡ lowestIn 5 false f t 0
         → (s : Setting) (v : Seen) → Looks today book q s → Shows place born line ip v → DayIs day v → v .head ≡ recOf head → v .antigens ≡ reverse (recs since) → listed b ≡ brokenAt s v f

@@ -15,7 +15,7 @@ use Rattle.lines.specs.Records.{Rec, IV, IP, II, recOf}
 use Rattle.rules_definitions.specs.Forms.{text, formOf, isJudged, isOptional, isRelaxed, isMissing, isMisformed, isSound, countForm, isNumber}
 use Rattle.rules_forms.specs.TextLeaves.{valueOf}
 use Rattle.rules_forms.specs.FieldLeaves.{lowest, lowestIn}
-use Rattle.rules_plain.specs.PlainFields.{numberLater, uliLater, dayLater, bornOf, dateLater, versionLater}
+use Rattle.rules_plain.specs.PlainFields.{rule7By, rule6By, rule8TodayBy, bornOf, rule8By, rule3By}
 use Rattle.rules_forms.proofs.FieldLaws.{text-is, lowest-of, lowest-either}
 
 -- THE LOWEST RULE BY A FIELD'S TEXT IS THE LOWEST BY ITS LINE
@@ -32,19 +32,19 @@ by-either k line t f d later x h =
     lowest-either k f t (later t) x (isRelaxed (recOf line)) h ∙ by-relaxed k line t f d later (isRelaxed (recOf line)) refl
 
 abbrev pub numberRule : ℕ → Rec → ℕ → ℕ
-numberRule k l place = lowest k l 2 (numberLater (valueOf (text l 2)) place)
+numberRule k l place = lowest k l 2 (rule7By (valueOf (text l 2)) place)
 
 abbrev pub uliRule : ℕ → Rec → Rec → ℕ
-uliRule k l ip = lowest k l 3 (uliLater (text l 3) ip)
+uliRule k l ip = lowest k l 3 (rule6By (text l 3) ip)
 
 abbrev pub dayRule : Rec → ℕ → ℕ
-dayRule l today = lowest IP l 25 (dayLater (text l 25) today)
+dayRule l today = lowest IP l 25 (rule8TodayBy (text l 25) today)
 
 abbrev pub dateRule : ℕ → Rec → ℕ → ℕ → ℕ → ℕ
-dateRule k l f today born = lowest k l f (dateLater (text l f) today born)
+dateRule k l f today born = lowest k l f (rule8By (text l f) today born)
 
 abbrev pub versionRule : Rec → ℕ
-versionRule l = lowest IV l 2 (versionLater (text l 2))
+versionRule l = lowest IV l 2 (rule3By (text l 2))
 
 -- SOUND FIELDS
 
@@ -97,10 +97,10 @@ born-before n ip = go (isSound IP ip 25)
 
 module _ (k : ℕ) (l : Rec) where
   pub number-is : (place : ℕ) → (isSound k l 2 ≡ true → isNumber (text l 2) ≡ true) → numberRule k l place ≡ lowest k l 2 (cond (not (eqb (number (text l 2)) place)) 7 0)
-  unfolding numberLater
+  unfolding rule7By
   number-is place h = low-same k l 2 _ _ (λ z. rw (value-is (text l 2) (h z)) (flip (eqb (number (text l 2)) place) 7))
 
   pub date-is : (f today : ℕ) (ip : Rec) → (isSound k l f ≡ true → isDate (text l f) ≡ true)
       → dateRule k l f today (bornOf ip) ≡ lowest k l f (cond (ltb today (number (text l f)) || (isSound IP ip 25 && ltb (number (text l f)) (number (text ip 25)))) 8 0)
-  unfolding dateLater
+  unfolding rule8By
   date-is f today ip h = low-same k l f _ _ (λ z. rw (h z, born-before (number (text l f)) ip))

@@ -16,7 +16,7 @@ use Rattle.rules_forms.specs.FieldLeaves.{lowest}
 use Rattle.rules_forms.proofs.FieldLaws.{text-is}
 use Rattle.rules_fields.specs.declared.Day.{Day}
 use Rattle.rules_fields.specs.Look.{knownBy, forceBy}
-use Rattle.rules_fields.specs.Fields.{codeLater, rule11By}
+use Rattle.rules_fields.specs.Fields.{rules4and5Of, rule11By}
 use Rattle.rules.proofs.LowestLaws.{low-same}
 use Rattle.rules.proofs.CodeNeeds.{codeOf}
 
@@ -57,7 +57,7 @@ module _ (line book : Text) (q : Sections) (day : Day) where
   read-whole h e = reason-whole (fieldOf line 11) (sym (ap isReason (text-is line 11)) ∙ reason-form l h e)
 
   pub reason-code : lowest II l 11 (later (pad 2 read)) ≡ lowest II l 11 (later read)
-  unfolding codeLater
+  unfolding rules4and5Of
   reason-code = low-same II l 11 (later (pad 2 read)) (later read) (λ h. go h (isEmpty (text l 11)) refl)
     where
       go : isSound II l 11 ≡ true → (e : Bool) → isEmpty (text l 11) ≡ e → later (pad 2 read) ≡ later read

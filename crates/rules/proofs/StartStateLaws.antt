@@ -49,8 +49,8 @@ holds-start file =
       many-is = refl;
       first-is = no-lines file 0;
       first-at = λ z. refl;
-      ins-is = refl;
+      not-immunized-is = refl;
       n-small = omega arith;
       place-small = omega arith;
-      ins-small = omega arith;
+      not-immunized-small = omega arith;
     }

@@ -70,9 +70,9 @@ module _ (file : Text) (at : ℕ) (st : State) (h : Holds file at st) (q : LineA
       go true = omega arith
       go false = refl
 
-  ins-step : nextNotImmunized (st .«not_immunized») k ≡ howMany (isKind IN) (linesBefore file (q .next))
+  not-immunized-step : nextNotImmunized (st .«not_immunized») k ≡ howMany (isKind IN) (linesBefore file (q .next))
   unfolding nextNotImmunized
-  ins-step = rw (step, kind-of IN, h .ins-is) (go (eqb k IN))
+  not-immunized-step = rw (step, kind-of IN, h .not-immunized-is) (go (eqb k IN))
     where
       go : (t : Bool) → cond t (howMany (isKind IN) before + 1) (howMany (isKind IN) before) ≡ cond t (suc (howMany (isKind IN) before)) (howMany (isKind IN) before)
       go true = omega arith
@@ -269,8 +269,8 @@ module _ (file : Text) (at : ℕ) (st : State) (h : Holds file at st) (q : LineA
         many-is = many-step;
         first-is = first-step;
         first-at = first-end;
-        ins-is = ins-step;
+        not-immunized-is = not-immunized-step;
         n-small = omega (arith, h .n-small, longer);
         place-small = grows (within IP IA k) (st .place) 1 (h .place-small);
-        ins-small = omega (arith, grows (eqb k IN) (st .«not_immunized») 0 (omega (arith, h .ins-small)));
+        not-immunized-small = omega (arith, grows (eqb k IN) (st .«not_immunized») 0 (omega (arith, h .not-immunized-small)));
       }

@@ -137,7 +137,7 @@ module _ (file : Text) (at : ℕ) (st : State) (h : Holds file at st) (l : LineA
         }
 
 pub turn-fits : (file : Text) (at : ℕ) (st : State) → Holds file at st → at < length file → length file ≤ 5000000 → (st .n + 1 < 2 ^ 64) × (st .place + 1 < 2 ^ 64) × (st .«not_immunized» + 1 < 2 ^ 64)
-turn-fits file at st h l m = (omega (arith, h .n-small), omega (arith, h .place-small), omega (arith, h .ins-small))
+turn-fits file at st h l m = (omega (arith, h .n-small), omega (arith, h .place-small), omega (arith, h .not-immunized-small))
 
 pub ruleset for-turn = (needs, ready, turn-is, turn-fits)
 
@@ -177,10 +177,10 @@ module _ (s : Setting) (file : Text) (area₀ : Text) where
       pub walk-area : area ≡ areaAfter area₀ (findingsOf s file)
       walk-area = ap (λ (k : Kept). k .area) all-kept
 
-      pub walk-ins : st .«not_immunized» ≡ howMany (isKind IN) (recs file)
+      pub walk-not-immunized : st .«not_immunized» ≡ howMany (isKind IN) (recs file)
       unfolding linesBefore
-      walk-ins =
-          w .holds .ins-is
+      walk-not-immunized =
+          w .holds .not-immunized-is
           ∙ ap (λ (t : Text). howMany (isKind IN) (reverse (recs t))) (take-all at file h)
           ∙ count-reverse (isKind IN) (recs file)
 
@@ -194,4 +194,4 @@ pub walk-left : (today : ℕ) (file book : Text) (q : Sections) (ledger : Text) 
 unfolding findingsBy
 walk-left today file book q ledger n area after e = e
 
-pub ruleset for-walk = (needs, walk-start, walk-on, walk-count, walk-area, walk-ins, walk-found, walk-left)
+pub ruleset for-walk = (needs, walk-start, walk-on, walk-count, walk-area, walk-not-immunized, walk-found, walk-left)

@@ -18,20 +18,20 @@ use Rattle.rules_definitions.specs.Codes.{isSite, isMethod, bookKind, reasonRea
 use Rattle.rules_definitions.specs.Rules.{siteWrong, methodWrong, lacks, countsSound, setsDiffer, sameLot, rule9, rule10, rule11, rule13, rule15, brokenAt}
 use Rattle.rules_forms.specs.TextLeaves.{valueOf}
 use Rattle.rules_forms.specs.FieldLeaves.{lowest, lowestIn}
-use Rattle.rules_plain.specs.PlainFields.{numberLater, uliLater, dateLater, lotLater}
+use Rattle.rules_plain.specs.PlainFields.{rule7By, rule6By, rule8By, rule14By}
 use Rattle.rules_forms.proofs.FieldLaws.{text-is, lacks-of}
-use Rattle.rules_plain.proofs.PlainLaws.{lot-later}
+use Rattle.rules_plain.proofs.PlainLaws.{rule14-lot-later}
 use Rattle.rules_fields.specs.declared.Broken.{Broken}
 use Rattle.rules_fields.specs.declared.Day.{Day}
 use Rattle.rules_fields.specs.declared.Facts.{Facts}
 use Rattle.rules.specs.Inside.{listed}
-use Rattle.rules_fields.specs.Fields.{broken, codeLater, rules16to18At, codeBy, rule10By, ii4Type, ii8Vaccine, ii9Site, ii10Method, ii11Reason, ii12Dosage, ii13DosageType}
+use Rattle.rules_fields.specs.Fields.{broken, rules4and5Of, rules16to18At, codeBy, rule10By, ii4Type, ii8Vaccine, ii9Site, ii10Method, ii11Reason, ii12Dosage, ii13DosageType}
 use Rattle.rules.specs.Fields.{Shows, DayIs, Looks, Blocked}
 use Rattle.rules.proofs.Collapse.{ii-2, ii-3, ii-6, ii-8, ii-9, ii-10, ii-11, ii-12, ii-13, ii-14, ii-15, ii-rest}
 use Rattle.rules.proofs.AtLaws.{more-at, sound-at, code-more, code-two, site-two, rules16-to-18-ii4}
 use Rattle.rules.proofs.RuleLaws.{any-reverse, rule9-ii9, rule9-ii10, rule10-ii9, rule10-ii10, rule10-ii12, rule10-ii13, rule11-ii11, rule13-ii8, rule15-ii8, rule13-sets-back}
 use Rattle.rules.proofs.LowestLaws.{by-relaxed, by-either, mandatory}
-use Rattle.rules.proofs.AnswerNeeds.{plain-relaxed, number-at, uli-at, date-at}
+use Rattle.rules.proofs.AnswerNeeds.{plain-relaxed, rule7-number-at, rule6-uli-at, rule8-date-at}
 use Rattle.rules.proofs.CodeNeeds.{codeOf, code-need, code-read, code-is}
 use Rattle.rules.proofs.ReasonLaws.{reason-code, reason-pair}
 use Rattle.rules.proofs.HeadNeeds.{pair-is, ruled, three-same}
@@ -60,11 +60,11 @@ module _ (line t ip block own first book : Text) (q : Sections) (place born : �
     R = isRelaxed (recOf line)
 
     code-low : (f of : ℕ) (c : Text) → codeIn II (v .line) f ≡ codeText of c []
-        → lowest II (recOf line) f (codeOf of c book q day (text (recOf line) f)) ≡ lowest II (v .line) f (codeLater (isEmpty (text (v .line) f)) (known f of) (out f of))
+        → lowest II (recOf line) f (codeOf of c book q day (text (recOf line) f)) ≡ lowest II (v .line) f (rules4and5Of (isEmpty (text (v .line) f)) (known f of) (out f of))
     code-low f of c re = code-read (lowest II (recOf line) f (codeOf of c book q day (text (recOf line) f))) line s v (sh .line-is) today book q day ls d II f of c re refl
 
     code-ii : (f of : ℕ) (c : Text) → codeIn II (v .line) f ≡ codeText of c []
-        → codeBy II R f (fieldOf line f) of c book q day ≡ lowest II (v .line) f (codeLater (isEmpty (text (v .line) f)) (known f of) (out f of))
+        → codeBy II R f (fieldOf line f) of c book q day ≡ lowest II (v .line) f (rules4and5Of (isEmpty (text (v .line) f)) (known f of) (out f of))
     code-ii f of c re = by-relaxed II line (fieldOf line f) f refl (codeOf of c book q day) R refl ∙ code-low f of c re
 
     -- the lowest rule at field f, by its text
@@ -105,7 +105,7 @@ module _ (line t ip block own first book : Text) (q : Sections) (place born : �
     at-9 : listed (ii9Site (recOf line) R (fieldOf line 9)) ≡ brokenAt s v 9
     unfolding ii9Site
     at-9 =
-        three-same _ _ _ _ _ _ (low-ii 9 (λ (u : Text). codeLater (isEmpty u) (isSite u) false)) site-ii (lack-ii 9 10 (rule10-ii9 s v kind-ii))
+        three-same _ _ _ _ _ _ (low-ii 9 (λ (u : Text). rules4and5Of (isEmpty u) (isSite u) false)) site-ii (lack-ii 9 10 (rule10-ii9 s v kind-ii))
         ∙ sym (site-two s v 9 kind-ii (isSite (text (v .line) 9)) (rule9 s v 9) (rule10 s v 9) 9 10 refl refl (ii-9 s v kind-ii))
 
     method-ii : _≡_ {A = ℕ} (cond (methodWrong (text (recOf line) 9) (fieldOf line 10) && (isGiven II (recOf line) 9 && isGiven II (recOf line) 10)) 9 0) (cond (rule9 s v 10) 9 0)
@@ -117,7 +117,7 @@ module _ (line t ip block own first book : Text) (q : Sections) (place born : �
     at-10 : listed (ii10Method (recOf line) R (fieldOf line 10)) ≡ brokenAt s v 10
     unfolding ii10Method
     at-10 =
-        three-same _ _ _ _ _ _ (low-ii 10 (λ (u : Text). codeLater (isEmpty u) (isMethod u) false)) method-ii (lack-ii 10 9 (rule10-ii10 s v kind-ii))
+        three-same _ _ _ _ _ _ (low-ii 10 (λ (u : Text). rules4and5Of (isEmpty u) (isMethod u) false)) method-ii (lack-ii 10 9 (rule10-ii10 s v kind-ii))
         ∙ sym (site-two s v 10 kind-ii (isMethod (text (v .line) 10)) (rule9 s v 10) (rule10 s v 10) 9 10 refl refl (ii-10 s v kind-ii))
 
     code-11 : codeIn II (v .line) 11 ≡ codeText 3 (reasonRead (fieldOf line 11)) []
@@ -156,11 +156,11 @@ module _ (line t ip block own first book : Text) (q : Sections) (place born : �
         three-same _ _ _ _ _ _ (code-ii 13 5 (fieldOf line 13) (ap (λ (u : Text). codeText 5 u []) (text-ii 13))) (lack-ii 13 12 (rule10-ii13 s v kind-ii)) refl
         ∙ sym (code-more s v II 13 kind-ii (known 13 5) (out 13 5) (rule10 s v 13) 10 refl (ii-13 s v kind-ii))
 
-    at-15 : listed (broken (lowestIn II R 15 (fieldOf line 15) (lotLater (fieldOf line 15) (recs block))) 0 0) ≡ brokenAt s v 15
+    at-15 : listed (broken (lowestIn II R 15 (fieldOf line 15) (rule14By (fieldOf line 15) (recs block))) 0 0) ≡ brokenAt s v 15
     at-15 =
         three-same _ _ _ _ _ _
-        (by-relaxed II line (fieldOf line 15) 15 refl (λ (u : Text). lotLater u (recs block)) R refl
-        ∙ ap (lowest II (recOf line) 15) (lot-later (recOf line) (text (recOf line) 15) (recs block) refl))
+        (by-relaxed II line (fieldOf line 15) 15 refl (λ (u : Text). rule14By u (recs block)) R refl
+        ∙ ap (lowest II (recOf line) 15) (rule14-lot-later (recOf line) (text (recOf line) 15) (recs block) refl))
         refl refl
         ∙ sym
         (sound-at s v II 15 kind-ii (any (sameLot (v .line)) (v .block)) 14 refl (ii-15 s v kind-ii)
@@ -174,21 +174,21 @@ module _ (line t ip block own first book : Text) (q : Sections) (place born : �
     at n h = dt ∙ ap (fieldOf line) h
 
     module _ (y : ℕ) (p : b ≡ broken y 0 0) where
-      pub need-ii-2 : f ≡ 2 → y ≡ lowestIn 4 false 2 t (numberLater (valueOf t) place) → Right
+      pub need-ii-2 : f ≡ 2 → y ≡ lowestIn 4 false 2 t (rule7By (valueOf t) place) → Right
       unfolding isJudged isOptional formOf table
       need-ii-2 h z s v ls sh d bl =
           rw h
-          (number-at b y p line s v (sh .line-is) 4 place e (sh .place-is) t (at 2 h) z refl (mandatory 4 (v .line) 2 (isNumber (text (v .line) 2)) refl refl refl)
+          (rule7-number-at b y p line s v (sh .line-is) 4 place e (sh .place-is) t (at 2 h) z refl (mandatory 4 (v .line) 2 (isNumber (text (v .line) 2)) refl refl refl)
           (ii-2 s v (kind-ii s v ls sh d bl)))
 
-      pub need-ii-3 : f ≡ 3 → y ≡ lowestIn 4 false 3 t (uliLater t (recOf ip)) → Right
-      need-ii-3 h z s v ls sh d bl = rw h (uli-at b y p line ip s v (sh .line-is) (sh .ip-is) 4 e t (at 3 h) refl z (ii-3 s v (kind-ii s v ls sh d bl)))
+      pub need-ii-3 : f ≡ 3 → y ≡ lowestIn 4 false 3 t (rule6By t (recOf ip)) → Right
+      need-ii-3 h z s v ls sh d bl = rw h (rule6-uli-at b y p line ip s v (sh .line-is) (sh .ip-is) 4 e t (at 3 h) refl z (ii-3 s v (kind-ii s v ls sh d bl)))
 
-      pub need-ii-6 : f ≡ 6 → y ≡ lowestIn 4 false 6 t (dateLater t today born) → Right
+      pub need-ii-6 : f ≡ 6 → y ≡ lowestIn 4 false 6 t (rule8By t today born) → Right
       unfolding isJudged isOptional formOf table
       need-ii-6 h z s v ls sh d bl =
           rw h
-          (date-at b y p line ip s v (sh .line-is) (sh .ip-is) 4 e born (sh .born-is) 6 today (ls .today-is) t (at 6 h) refl z (mandatory 4 (v .line) 6 (isDate (text (v .line) 6)) refl refl refl)
+          (rule8-date-at b y p line ip s v (sh .line-is) (sh .ip-is) 4 e born (sh .born-is) 6 today (ls .today-is) t (at 6 h) refl z (mandatory 4 (v .line) 6 (isDate (text (v .line) 6)) refl refl refl)
           (ii-6 s v (kind-ii s v ls sh d bl)))
 
       pub need-ii-14 : f ≡ 14 → y ≡ codeBy 4 x 14 t 4 t book q day → Right
@@ -198,10 +198,10 @@ module _ (line t ip block own first book : Text) (q : Sections) (place born : �
           (code-need b y p line s v (sh .line-is) 4 14 4 e (code-is y line s v (sh .line-is) today book q day ls d 4 14 4 t x (at 14 h) refl z (inr rx))
           (ii-14 s v (kind-ii s v ls sh d bl)))
 
-      pub need-ii-15 : f ≡ 15 → y ≡ lowestIn 4 x 15 t (lotLater t (recs block)) → Right
+      pub need-ii-15 : f ≡ 15 → y ≡ lowestIn 4 x 15 t (rule14By t (recs block)) → Right
       need-ii-15 h z s v ls sh d bl =
           rw (h, p, z, rx)
-          (ap (λ (u : Text). listed (broken (lowestIn II (isRelaxed (recOf line)) 15 u (lotLater u (recs block))) 0 0)) (at 15 h) ∙ at-15 s v ls sh d bl)
+          (ap (λ (u : Text). listed (broken (lowestIn II (isRelaxed (recOf line)) 15 u (rule14By u (recs block))) 0 0)) (at 15 h) ∙ at-15 s v ls sh d bl)
 
       pub need-ii-rest : (f ≡ 2 → ⊥) → (f ≡ 3 → ⊥) → (f ≡ 4 → ⊥) → (f ≡ 6 → ⊥) → (f ≡ 8 → ⊥) → (f ≡ 9 → ⊥) → (f ≡ 10 → ⊥) → (f ≡ 11 → ⊥) → (f ≡ 12 → ⊥) → (f ≡ 13 → ⊥) → (f ≡ 14 → ⊥) → (f ≡ 15 → ⊥)
           → y ≡ lowestIn 4 x f t 0 → Right

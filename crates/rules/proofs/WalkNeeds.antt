@@ -50,13 +50,13 @@ module _ (k : ℕ) where
   unfolding nextOf
   near-same j p here h = simp (ne-eqb _ _ h)
 
-  pub ins-more : (i : ℕ) → k ≡ IN → i + 1 ≡ nextNotImmunized i k
+  pub not-immunized-more : (i : ℕ) → k ≡ IN → i + 1 ≡ nextNotImmunized i k
   unfolding nextNotImmunized
-  ins-more i h = simp (eq-eqb _ _ h)
+  not-immunized-more i h = simp (eq-eqb _ _ h)
 
-  pub ins-same : (i : ℕ) → (k ≡ IN → ⊥) → i ≡ nextNotImmunized i k
+  pub not-immunized-same : (i : ℕ) → (k ≡ IN → ⊥) → i ≡ nextNotImmunized i k
   unfolding nextNotImmunized
-  ins-same i h = simp (ne-eqb _ _ h)
+  not-immunized-same i h = simp (ne-eqb _ _ h)
 
   module _ (h : k ≡ IE) where
     pub since-same : (s next : ℕ) → s ≡ nextSince s k next
@@ -135,8 +135,8 @@ pub ruleset for-next = (
   place-high,
   near-here,
   near-same,
-  ins-more,
-  ins-same,
+  not-immunized-more,
+  not-immunized-same,
   since-same,
   since-next,
   last-same,

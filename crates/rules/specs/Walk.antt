@@ -73,10 +73,10 @@ pub record Holds (file : Text) (at : ℕ) (st : State) : Type 0 where
   pub many-is : st .many ≡ hasSecond (linesBefore file at)
   pub first-is : LinesAre file at (st .first) (firstOpen (linesBefore file at))
   pub first-at : st .many ≡ false → st .first .end ≡ at
-  pub ins-is : st .«not_immunized» ≡ howMany (isKind IN) (linesBefore file at)
+  pub not-immunized-is : st .«not_immunized» ≡ howMany (isKind IN) (linesBefore file at)
   pub n-small : st .n ≤ at + 1
   pub place-small : st .place ≤ at + 1
-  pub ins-small : st .«not_immunized» ≤ at
+  pub not-immunized-small : st .«not_immunized» ≤ at
 
 -- of a line that is not there
 abbrev pub noDay : Day

@@ -31,7 +31,7 @@ ghost use Rattle.lines_fields.specs.Inside.{part};
 ghost use Rattle.ledger.specs.Ledger.{foundIn};
 ghost use Rattle.rules_definitions.specs.Seen.{Setting, Seen};
 ghost use Rattle.rules_definitions.specs.Findings.{fieldsFindings, areaAfter};
-ghost use Rattle.rules_walk.specs.Firsts.{bytesMost, builtIn};
+ghost use Rattle.rules_walk.specs.Firsts.{fileMost, builtIn};
 ghost use Rattle.rules.specs.Inside.{kept, keep};
 ghost use Rattle.rules.specs.Look.{settingBy};
 ghost use Rattle.rules.specs.Fields.{Looks, Told};
@@ -167,7 +167,7 @@ fn turn(
 ) -> Turn
     requires { ⌜ Holds (now file) at st ⌝ }
     requires { ⌜ at < length (now file) ⌝ }
-    requires { ⌜ length (now file) ≤ bytesMost ⌝ }
+    requires { ⌜ length (now file) ≤ fileMost ⌝ }
     requires { ⌜ Serves (now file) (now index) ⌝ }
     requires { ⌜ count ≤ 3 * at ⌝ }
     ensures { λ r. ⌜ TurnIs (settingBy today (now (book .entry)) q (foundIn (now (ledger .entry)) live)) (now (file .entry)) at st count (now (area .entry)) r (now (area .exit)) ⌝ }
@@ -215,7 +215,7 @@ fn walk(
     today: u32,
     area: &mut [u8],
 ) -> Walked
-    requires { ⌜ length (now file) ≤ bytesMost ⌝ }
+    requires { ⌜ length (now file) ≤ fileMost ⌝ }
     requires { ⌜ Serves (now file) (now index) ⌝ }
     ensures { λ r. ⌜ r .findings ≡ length (findingsBy today (now (file .entry)) (now (book .entry)) q (now (ledger .entry)) live) ⌝ }
     ensures { λ r. ⌜ now (area .exit) ≡ areaAfter (now (area .entry)) (findingsBy today (now (file .entry)) (now (book .entry)) q (now (ledger .entry)) live) ⌝ }

@@ -5,7 +5,7 @@ use mathlib.Core.Bool.{Bool, true, false, not, cond, _&&_, _||_}
 use mathlib.Core.List.{List, [], _∷_}
 use lib.ListN.{length, getD}
 use lib.Dec.{eqb, ltb}
-use Rattle.house.specs.Text.{Text, bytes, any, front, behind, isEmpty, same, oneOf, within, isDigit, isLetter, isLetterOrDigit, isGraphic, isBlank, run, number}
+use Rattle.house.specs.Text.{Text, bytes, any, front, afterFront, isEmpty, same, oneOf, within, isDigit, isLetter, isLetterOrDigit, isGraphic, isBlank, run, number}
 use Rattle.dates.specs.Dates.{isDate}
 use Rattle.lines.specs.Records.{Rec, IV, IH, IP, II, IE, IN, IA, IF}
 
@@ -80,7 +80,7 @@ isFraction (b ∷ t) = eqb b 46 && run 1 2 isDigit t
 
 -- "II 12 dosage: 1 to 6 digits, then perhaps a point and one or two digits; above 0": some digit is not 0
 unfoldable pub isDosage : Text → Bool
-isDosage t = within 1 6 (length (front isDigit t)) && (isFraction (behind isDigit t) && any (within 49 57) t)
+isDosage t = within 1 6 (length (front isDigit t)) && (isFraction (afterFront isDigit t) && any (within 49 57) t)
 
 -- "13 dosage type, 1 to 4"
 unfoldable pub isDosageType : Text → Bool

@@ -1,1 +1,1 @@
-// The rules: every broken rule of a file of right shape, once, in order.
+// What forms, blocks, rules and findings are: definitions and claims, no code.

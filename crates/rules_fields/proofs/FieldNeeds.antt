@@ -15,17 +15,17 @@ use Rattle.rules_forms.specs.FieldLeaves.{lowestIn}
 use Rattle.rules_lists.specs.Among.{antigenIs}
 use Rattle.rules_fields.specs.declared.Day.{Day}
 use Rattle.rules_fields.specs.declared.Facts.{Facts}
-use Rattle.rules_fields.specs.Fields.{broken, codeLater, rules16to18At, codeBy, rule11By, rule10By, ii4Type, ii8Vaccine, ii9Site, ii10Method, ii11Reason, ii12Dosage, ii13DosageType, ie4Antigen}
+use Rattle.rules_fields.specs.Fields.{broken, rules4and5Of, rules16to18At, codeBy, rule11By, rule10By, ii4Type, ii8Vaccine, ii9Site, ii10Method, ii11Reason, ii12Dosage, ii13DosageType, ie4Antigen}
 use Rattle.rules_fields.proofs.LookLaws.{code-lacks}
 
 module _ (l : Rec) (x : Bool) (t : Text) (a b c : ℕ) where
-  pub site-is : a ≡ lowestIn 4 x 9 t (codeLater (isEmpty t) (isSite t) false)
+  pub site-is : a ≡ lowestIn 4 x 9 t (rules4and5Of (isEmpty t) (isSite t) false)
       → b ≡ cond (siteWrong t (text l 10) && (isGiven 4 l 9 && isGiven 4 l 10)) 9 0
       → c ≡ rule10By l x t 10 → broken a b c ≡ ii9Site l x t
   unfolding ii9Site
   site-is p q r = rw (p, q, r)
 
-  pub method-is : a ≡ lowestIn 4 x 10 t (codeLater (isEmpty t) (isMethod t) false)
+  pub method-is : a ≡ lowestIn 4 x 10 t (rules4and5Of (isEmpty t) (isMethod t) false)
       → b ≡ cond (methodWrong (text l 9) t && (isGiven 4 l 9 && isGiven 4 l 10)) 9 0
       → c ≡ rule10By l x t 9 → broken a b c ≡ ii10Method l x t
   unfolding ii10Method

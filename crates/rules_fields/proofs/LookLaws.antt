@@ -26,7 +26,7 @@ use Rattle.rules_definitions.specs.Forms.{text, formOf, isJudged, isGiven}
 use Rattle.rules_forms.specs.FieldLeaves.{optionalIn, lowestIn}
 use Rattle.rules_forms.proofs.FieldLaws.{text-is, empty-true, empty-false}
 use Rattle.rules_fields.specs.Look.{foundBy, knownBy, forceBy}
-use Rattle.rules_fields.specs.Fields.{codeLater, unpairedBy}
+use Rattle.rules_fields.specs.Fields.{rules4and5Of, unpairedBy}
 
 -- a text with blanks after it: as long as its width, unless it is longer
 filled-fits : (w : ℕ) (t : Text) → length t ≤ w → length (filled w t) ≡ w
@@ -96,25 +96,25 @@ module _ (s : Text) (q : Sections) (k : ℕ) (a b : Text) where
     when-in : r ≡ InForce → (knownBy s q k (codeText k a b) ≡ true) × (forceBy s q d k (codeText k a b) ≡ true)
     when-in z = subst (λ (x : Standing). Says x d) (sym e ∙ z) (says d)
 
-    -- code_later
-    pub later-unknown : r ≡ Unknown → 4 ≡ codeLater false (knownBy s q k (codeText k a b)) (dated && not (forceBy s q d k (codeText k a b)))
-    unfolding codeLater
+    -- rules4_and_5_code
+    pub later-unknown : r ≡ Unknown → 4 ≡ rules4and5Of false (knownBy s q k (codeText k a b)) (dated && not (forceBy s q d k (codeText k a b)))
+    unfolding rules4and5Of
     later-unknown z = rw (when-unknown z)
 
-    pub later-in : r ≡ InForce → 0 ≡ codeLater false (knownBy s q k (codeText k a b)) (dated && not (forceBy s q d k (codeText k a b)))
-    unfolding codeLater
+    pub later-in : r ≡ InForce → 0 ≡ rules4and5Of false (knownBy s q k (codeText k a b)) (dated && not (forceBy s q d k (codeText k a b)))
+    unfolding rules4and5Of
     later-in z = rw (when-in z .0, when-in z .1) (go dated)
       where
         go : (x : Bool) → _≡_ {A = ℕ} 0 (cond (x && false) 5 0)
         go true = refl
         go false = refl
 
-    pub later-out : r ≡ OutOfForce → dated ≡ true → 5 ≡ codeLater false (knownBy s q k (codeText k a b)) (dated && not (forceBy s q d k (codeText k a b)))
-    unfolding codeLater
-    later-out z x = rw (when-out z .0, when-out z .1, x)
+    pub rule5-out : r ≡ OutOfForce → dated ≡ true → 5 ≡ rules4and5Of false (knownBy s q k (codeText k a b)) (dated && not (forceBy s q d k (codeText k a b)))
+    unfolding rules4and5Of
+    rule5-out z x = rw (when-out z .0, when-out z .1, x)
 
-    pub later-undated : r ≡ OutOfForce → dated ≡ false → 0 ≡ codeLater false (knownBy s q k (codeText k a b)) (dated && not (forceBy s q d k (codeText k a b)))
-    unfolding codeLater
+    pub later-undated : r ≡ OutOfForce → dated ≡ false → 0 ≡ rules4and5Of false (knownBy s q k (codeText k a b)) (dated && not (forceBy s q d k (codeText k a b)))
+    unfolding rules4and5Of
     later-undated z x = rw (when-out z .0, x)
 
     -- pair_wrong
@@ -137,7 +137,7 @@ module _ (s : Text) (q : Sections) (k : ℕ) (a b : Text) where
 
 pub ruleset for-known = (needs, known-at, known-not)
 
-pub ruleset for-rules4-and-5-code = (needs, later-unknown, later-in, later-out, later-undated)
+pub ruleset for-rules4-and-5-code = (needs, later-unknown, later-in, rule5-out, later-undated)
 
 pub ruleset for-pair = (needs, pair-unknown, pair-in, pair-out)
 
@@ -161,13 +161,13 @@ module _ (k : ℕ) (x : Bool) (f : ℕ) (t : Text) (r n : ℕ) (e : r ≡ lowest
       go false true h = absurd (omega arith)
       go false false h = refl
 
--- code_rule
+-- code_field
 module _ (k : ℕ) (x : Bool) (f : ℕ) (t : Text) (r : ℕ) (e : r ≡ lowestIn k x f t 0) (h : r ≡ 0) (known out : Bool) where
-  pub code-empty : length t ≡ 0 → 0 ≡ lowestIn k x f t (codeLater (isEmpty t) known out)
-  unfolding codeLater
+  pub code-empty : length t ≡ 0 → 0 ≡ lowestIn k x f t (rules4and5Of (isEmpty t) known out)
+  unfolding rules4and5Of
   code-empty z = rw (empty-true t z) (low-sound k x f t r 0 e h)
 
-  pub code-given : (y : ℕ) → (length t ≡ 0 → ⊥) → y ≡ codeLater false known out → y ≡ lowestIn k x f t (codeLater (isEmpty t) known out)
+  pub code-given : (y : ℕ) → (length t ≡ 0 → ⊥) → y ≡ rules4and5Of false known out → y ≡ lowestIn k x f t (rules4and5Of (isEmpty t) known out)
   code-given y z w = rw (empty-false t z, ← w) (low-sound k x f t r y e h)
 
 pub ruleset for-code-field = (needs, low-broken, code-empty, code-given)
@@ -184,8 +184,8 @@ pub ruleset for-given = (needs, given-no, given-both)
 
 -- a code that the book lacks, by its verdict
 pub code-lacks : (k : ℕ) (x : Bool) (f : ℕ) (t : Text) (a : ℕ) (known out : Bool)
-    → a ≡ lowestIn k x f t (codeLater (isEmpty t) known out) → a ≡ 4 → known ≡ false
-unfolding lowestIn codeLater
+    → a ≡ lowestIn k x f t (rules4and5Of (isEmpty t) known out) → a ≡ 4 → known ≡ false
+unfolding lowestIn rules4and5Of
 code-lacks k x f t a known out e h =
     go (isJudged k f && not (optionalIn k x f) && isEmpty t) (not (formOf k f t) && not (isEmpty t)) (isEmpty t) known out (sym e ∙ h)
   where
@@ -219,7 +219,7 @@ module _ (k : ℕ) (l : Rec) (f a : ℕ) (t : Text) where
 
 pub ruleset for-unpaired = (needs, unpaired-unknown, unpaired-filled, unpaired-given, unpaired-empty)
 
--- pair_rule
+-- rule11_pair
 pub pair-none : (n a k : ℕ) (l : Rec) (f : ℕ) (t : Text) (x u y v : Bool) → (a ≡ 4 → y ≡ false) → x ≡ unpairedBy a k l f t → x ≡ true
     → 0 ≡ cond (u && (isGiven k l f && y) && v) n 0
 unfolding unpairedBy

@@ -17,30 +17,30 @@ one : {A : Type 0} (x : A) → One x
 one x r q e f = e ∙ sym f
 
 module _ (t book : Text) (q : Sections) (day : Day) where
-  code-rule : (k : ℕ) (x : Bool) (f of : ℕ) (code : Text) → One (codeBy k x f t of code book q day)
-  code-rule k x f of code = one _
+  code-field : (k : ℕ) (x : Bool) (f of : ℕ) (code : Text) → One (codeBy k x f t of code book q day)
+  code-field k x f of code = one _
 
-  antigen-at : (line head since : Text) → One (ie4Antigen line head since t book q day)
-  antigen-at line head since = one _
+  ie4-antigen : (line head since : Text) → One (ie4Antigen line head since t book q day)
+  ie4-antigen line head since = one _
 
-  vaccine-at : (own first : Text) (facts : Facts) → One (ii8Vaccine t own first book q day facts)
-  vaccine-at own first facts = one _
+  ii8-vaccine : (own first : Text) (facts : Facts) → One (ii8Vaccine t own first book q day facts)
+  ii8-vaccine own first facts = one _
 
-  reason-at : (line : Text) (x : Bool) → One (ii11Reason (recOf line) x t book q day)
-  reason-at line x = one _
+  ii11-reason : (line : Text) (x : Bool) → One (ii11Reason (recOf line) x t book q day)
+  ii11-reason line x = one _
 
-  dosage-type-at : (line : Text) (x : Bool) → One (ii13DosageType (recOf line) x t book q day)
-  dosage-type-at line x = one _
+  ii13-dosage-type : (line : Text) (x : Bool) → One (ii13DosageType (recOf line) x t book q day)
+  ii13-dosage-type line x = one _
 
-type-at : (t : Text) (facts : Facts) → One (ii4Type t facts)
-type-at t facts = one _
+ii4-type : (t : Text) (facts : Facts) → One (ii4Type t facts)
+ii4-type t facts = one _
 
 module _ (line t : Text) (x : Bool) where
-  site-at : One (ii9Site (recOf line) x t)
-  site-at = one _
+  ii9-site : One (ii9Site (recOf line) x t)
+  ii9-site = one _
 
-  method-at : One (ii10Method (recOf line) x t)
-  method-at = one _
+  ii10-method : One (ii10Method (recOf line) x t)
+  ii10-method = one _
 
-  dosage-at : One (ii12Dosage (recOf line) x t)
-  dosage-at = one _
+  ii12-dosage : One (ii12Dosage (recOf line) x t)
+  ii12-dosage = one _

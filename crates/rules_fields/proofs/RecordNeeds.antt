@@ -13,7 +13,7 @@ use Rattle.lines.specs.Records.{recOf}
 use Rattle.rules_definitions.specs.Forms.{text}
 use Rattle.rules_definitions.specs.Rules.{siteWrong, methodWrong}
 use Rattle.rules_forms.proofs.FieldLaws.{text-is}
-use Rattle.rules_fields.specs.Fields.{codeLater, rules16to18At}
+use Rattle.rules_fields.specs.Fields.{rules4and5Of, rules16to18At}
 use Rattle.rules_fields.proofs.LookLaws.{low-broken, code-empty, code-given}
 
 -- a rule of tests that are asked one after the other
@@ -36,19 +36,19 @@ module _ (u v : Bool) (n : ℕ) (x : Bool) (e : x ≡ u) (h : x ≡ true) where
   pub asked-more : v ≡ true → n ≡ cond (u && v) n 0
   asked-more k = rw (← e, h, k)
 
--- site_rule, method_rule
+-- ii9_site_alone, ii10_method_alone
 module _ (known : Bool) where
-  pub site-known : (x : Bool) → x ≡ known → x ≡ true → 0 ≡ codeLater false known false
-  unfolding codeLater
+  pub site-known : (x : Bool) → x ≡ known → x ≡ true → 0 ≡ rules4and5Of false known false
+  unfolding rules4and5Of
   site-known x e h = rw (← e, h)
 
-  pub site-unknown : (x : Bool) → x ≡ known → x ≡ false → 4 ≡ codeLater false known false
-  unfolding codeLater
+  pub site-unknown : (x : Bool) → x ≡ known → x ≡ false → 4 ≡ rules4and5Of false known false
+  unfolding rules4and5Of
   site-unknown x e h = rw (← e, h)
 
 pub ruleset for-site = (needs, low-broken, code-empty, code-given, site-known, site-unknown)
 
--- site_against, method_against
+-- rule9_site, rule9_method
 module _ (line s m : Text) (x : Bool) where
   pub site-two : m ≡ fieldOf line 10 → x ≡ siteWrong s m → x ≡ siteWrong s (text (recOf line) 10)
   site-two q e = rw (text-is line 10, ← q) e
@@ -56,7 +56,7 @@ module _ (line s m : Text) (x : Bool) where
   pub method-two : s ≡ fieldOf line 9 → x ≡ methodWrong s m → x ≡ methodWrong (text (recOf line) 9) m
   method-two p e = rw (text-is line 9, ← p) e
 
--- again_rule
+-- rule12_antigen_again
 pub sound-no : (a : Bool) (n r m : ℕ) → r ≡ n → (r ≡ 0 → ⊥) → 0 ≡ cond (eqb n 0 && a) m 0
 sound-no a n r m e h = rw (← e, ne-eqb r 0 h)
 
@@ -71,7 +71,7 @@ pub ruleset for-again = (needs, sound-no, sound-not, sound-yes)
 
 pub ruleset for-asked = (needs, asked-no, asked-not, asked-yes, asked-more, asked-none, site-two, method-two)
 
--- set_rule
+-- rule13_antigens_differ
 module _ (r : ℕ) (a b c d : Bool) where
   pub set-a : a ≡ false → 0 ≡ cond (a && (b && (c && d))) r 0
   set-a h = rw h
@@ -93,7 +93,7 @@ module _ (r : ℕ) (a b c d : Bool) where
 
 pub ruleset for-set = (needs, set-a, set-d, set-b, set-c, set-all)
 
--- ledger_rule
+-- rules16_to_18
 module _ (inb live : Bool) (t : Text) where
   pub ledger-out : inb ≡ false → 0 ≡ rules16to18At inb t live
   unfolding rules16to18At
@@ -101,26 +101,26 @@ module _ (inb live : Bool) (t : Text) where
 
   module _ (h : inb ≡ true) where
     module _ (l : live ≡ true) (x : Bool) (e : x ≡ same t (65 ∷ [])) where
-      pub ledger-add : x ≡ true → 16 ≡ rules16to18At inb t live
+      pub rule16-add : x ≡ true → 16 ≡ rules16to18At inb t live
       unfolding rules16to18At
-      ledger-add k = rw (h, l, ← e, k)
+      rule16-add k = rw (h, l, ← e, k)
 
       pub ledger-live : x ≡ false → 0 ≡ rules16to18At inb t live
       unfolding rules16to18At
       ledger-live k = rw (h, l, ← e, k)
 
     module _ (l : live ≡ false) (x : Bool) (e : x ≡ same t (67 ∷ [])) where
-      pub ledger-change : x ≡ true → 17 ≡ rules16to18At inb t live
+      pub rule17-change : x ≡ true → 17 ≡ rules16to18At inb t live
       unfolding rules16to18At
-      ledger-change k = rw (h, l, ← e, k)
+      rule17-change k = rw (h, l, ← e, k)
 
       module _ (k : x ≡ false) (y : Bool) (f : y ≡ same t (68 ∷ [])) where
-        pub ledger-delete : y ≡ true → 18 ≡ rules16to18At inb t live
+        pub rule18-delete : y ≡ true → 18 ≡ rules16to18At inb t live
         unfolding rules16to18At
-        ledger-delete m = rw (h, l, ← e, k, ← f, m)
+        rule18-delete m = rw (h, l, ← e, k, ← f, m)
 
         pub ledger-other : y ≡ false → 0 ≡ rules16to18At inb t live
         unfolding rules16to18At
         ledger-other m = rw (h, l, ← e, k, ← f, m)
 
-pub ruleset for-ledger = (needs, ledger-out, ledger-add, ledger-live, ledger-change, ledger-delete, ledger-other)
+pub ruleset for-ledger = (needs, ledger-out, rule16-add, ledger-live, rule17-change, rule18-delete, ledger-other)

@@ -24,13 +24,13 @@ abbrev pub broken : ℕ → ℕ → ℕ → Broken
 broken a b c = record { a = a; b = b; c = c }
 
 -- rules 4 and 5 at a sound field: unless it is empty, its code is known or not, and is out of force or not
-unfoldable pub codeLater : Bool → Bool → Bool → ℕ
-codeLater empty known out = cond empty 0 (cond known (cond out 5 0) 4)
+unfoldable pub rules4and5Of : Bool → Bool → Bool → ℕ
+rules4and5Of empty known out = cond empty 0 (cond known (cond out 5 0) 4)
 
 -- rules 4 and 5 of a code of a kind of the book that is given
 abbrev pub rules4and5By : ℕ → Text → Text → Sections → Day → ℕ
 rules4and5By of code book q day =
-    codeLater false (knownBy book q of (codeText of code [])) (day .sound && not (forceBy book q (day .number) of (codeText of code [])))
+    rules4and5Of false (knownBy book q of (codeText of code [])) (day .sound && not (forceBy book q (day .number) of (codeText of code [])))
 
 -- a pair of codes is absent from the book, or out of force on a day that is sound
 abbrev pub isPairWrong : ℕ → Text → Text → Text → Sections → Day → Bool
@@ -44,7 +44,7 @@ rules16to18At inb type live = cond inb (cond live (cond (same type adds) 16 0) (
 -- rules 1, 2, 4 and 5 at field f of a record of kind k with text t, read as this code of kind `of`
 abbrev pub codeBy : ℕ → Bool → ℕ → Text → ℕ → Text → Text → Sections → Day → ℕ
 codeBy k relaxed f t of code book q day =
-    lowestIn k relaxed f t (codeLater (isEmpty t) (knownBy book q of (codeText of code [])) (day .sound && not (forceBy book q (day .number) of (codeText of code []))))
+    lowestIn k relaxed f t (rules4and5Of (isEmpty t) (knownBy book q of (codeText of code [])) (day .sound && not (forceBy book q (day .number) of (codeText of code []))))
 
 -- field f of a line of kind k, with text t and this verdict on its code, has no pair to be wrong: the book lacks its code, or it is empty
 unfoldable pub unpairedBy : ℕ → ℕ → Rec → ℕ → Text → Bool
@@ -101,13 +101,13 @@ ii8Vaccine t own first book q day facts =
 -- II 9
 unfoldable pub ii9Site : Rec → Bool → Text → Broken
 ii9Site l relaxed t =
-    broken (lowestIn II relaxed 9 t (codeLater (isEmpty t) (isSite t) false))
+    broken (lowestIn II relaxed 9 t (rules4and5Of (isEmpty t) (isSite t) false))
     (rule9AtSite l t) (rule10By l relaxed t 10)
 
 -- II 10
 unfoldable pub ii10Method : Rec → Bool → Text → Broken
 ii10Method l relaxed t =
-    broken (lowestIn II relaxed 10 t (codeLater (isEmpty t) (isMethod t) false))
+    broken (lowestIn II relaxed 10 t (rules4and5Of (isEmpty t) (isMethod t) false))
     (rule9AtMethod l t) (rule10By l relaxed t 9)
 
 -- II 11, its reason as two bytes

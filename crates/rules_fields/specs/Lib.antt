@@ -1,4 +1,4 @@
--- What the functions on the later rules answer; the rules themselves stand in crates/rules_definitions/specs.
+-- What the functions on the rules at a field answer; the rules themselves stand in crates/rules_definitions/specs.
 -- Assumes nothing.
 pub mod Look
 pub mod Fields

@@ -2,8 +2,8 @@
 use crate::Broken;
 use crate::Day;
 use crate::Facts;
-use crate::by_rule::rule4_method;
-use crate::by_rule::rule4_site;
+use crate::by_rule::ii9_site_alone;
+use crate::by_rule::ii10_method_alone;
 use crate::by_rule::rule9_method;
 use crate::by_rule::rule9_site;
 use crate::by_rule::rule10_partner_missing;
@@ -63,7 +63,7 @@ pub fn ii8_vaccine(
 pub fn ii9_site(line: &[u8], relaxed: bool, t: &[u8]) -> Broken
     ensures { λ r. ⌜ r ≡ ii9Site (recOf (now (line .entry))) relaxed (now (t .entry)) ⌝ }
 {
-    let a = rule4_site(relaxed, t);
+    let a = ii9_site_alone(relaxed, t);
     let b = rule9_site(line, t);
     let c = rule10_partner_missing(line, relaxed, t, 10);
     Broken { a, b, c }
@@ -73,7 +73,7 @@ pub fn ii9_site(line: &[u8], relaxed: bool, t: &[u8]) -> Broken
 pub fn ii10_method(line: &[u8], relaxed: bool, t: &[u8]) -> Broken
     ensures { λ r. ⌜ r ≡ ii10Method (recOf (now (line .entry))) relaxed (now (t .entry)) ⌝ }
 {
-    let a = rule4_method(relaxed, t);
+    let a = ii10_method_alone(relaxed, t);
     let b = rule9_method(line, t);
     let c = rule10_partner_missing(line, relaxed, t, 9);
     Broken { a, b, c }

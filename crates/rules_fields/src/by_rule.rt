@@ -8,11 +8,11 @@ ghost use Rattle.lines.specs.Records.{II, recOf};
 ghost use Rattle.rules_definitions.specs.Forms.{isGiven};
 ghost use Rattle.rules_definitions.specs.Codes.{isSite, isMethod};
 ghost use Rattle.rules_forms.specs.FieldLeaves.{lowestIn};
-ghost use Rattle.rules_fields.specs.Fields.{codeLater, rules16to18At, rule9AtSite, rule9AtMethod, rule10By, rule12By, rule13By};
+ghost use Rattle.rules_fields.specs.Fields.{rules4and5Of, rules16to18At, rule9AtSite, rule9AtMethod, rule10By, rule12By, rule13By};
 
 // II 9: rules 1, 2 and 4.
-pub(crate) fn rule4_site(relaxed: bool, t: &[u8]) -> u8
-    ensures { λ r. ⌜ r ≡ lowestIn II relaxed 9 (now (t .entry)) (codeLater (isEmpty (now (t .entry))) (isSite (now (t .entry))) false) ⌝ }
+pub(crate) fn ii9_site_alone(relaxed: bool, t: &[u8]) -> u8
+    ensures { λ r. ⌜ r ≡ lowestIn II relaxed 9 (now (t .entry)) (rules4and5Of (isEmpty (now (t .entry))) (isSite (now (t .entry))) false) ⌝ }
 {
     let r = rules_forms::rules1_and_2(II, relaxed, 9, t);
     if r != 0 {
@@ -25,8 +25,8 @@ pub(crate) fn rule4_site(relaxed: bool, t: &[u8]) -> u8
 }
 
 // II 10: rules 1, 2 and 4.
-pub(crate) fn rule4_method(relaxed: bool, t: &[u8]) -> u8
-    ensures { λ r. ⌜ r ≡ lowestIn II relaxed 10 (now (t .entry)) (codeLater (isEmpty (now (t .entry))) (isMethod (now (t .entry))) false) ⌝ }
+pub(crate) fn ii10_method_alone(relaxed: bool, t: &[u8]) -> u8
+    ensures { λ r. ⌜ r ≡ lowestIn II relaxed 10 (now (t .entry)) (rules4and5Of (isEmpty (now (t .entry))) (isMethod (now (t .entry))) false) ⌝ }
 {
     let r = rules_forms::rules1_and_2(II, relaxed, 10, t);
     if r != 0 {

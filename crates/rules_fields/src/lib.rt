@@ -1,4 +1,4 @@
-// The later rules: those beyond rules 1 and 2, each where the fields that it reads are sound.
+// Which rules are broken at a field, by its text, where there is more than one or the book is asked.
 mod by_field;
 mod by_rule;
 mod codes;

@@ -9,7 +9,7 @@ use native.Mathlib.Omega.{arith}
 use borrow.Author.Needs.{needs}
 use borrow.Author.Tests.{ne-eqb}
 use lib.ListN.{length, getD, take, drop}
-use Rattle.house.specs.Text.{Text, any, front, behind, within, run, isDigit}
+use Rattle.house.specs.Text.{Text, any, front, afterFront, within, run, isDigit}
 use Rattle.house.proofs.Suffix.{drop-here, drop-past, rest}
 use Rattle.rules_definitions.specs.Forms.{isFraction, isDosage}
 use Rattle.rules_forms.specs.Classes.{inClass}
@@ -70,13 +70,13 @@ len-is : (t : Text) → length (front isDigit t) ≡ digitsLen t
 unfolding digitsLen
 len-is t = refl
 
-behind-is : (t : Text) → behind isDigit t ≡ drop (digitsLen t) t
+after-is : (t : Text) → afterFront isDigit t ≡ drop (digitsLen t) t
 unfolding digitsLen
-behind-is [] = refl
-behind-is (b ∷ t) = go (isDigit b) (behind-is t)
+after-is [] = refl
+after-is (b ∷ t) = go (isDigit b) (after-is t)
   where
-    go : (x : Bool) → behind isDigit t ≡ drop (length (front isDigit t)) t
-        → cond x (behind isDigit t) (b ∷ t) ≡ drop (length (cond x (b ∷ front isDigit t) [])) (b ∷ t)
+    go : (x : Bool) → afterFront isDigit t ≡ drop (length (front isDigit t)) t
+        → cond x (afterFront isDigit t) (b ∷ t) ≡ drop (length (cond x (b ∷ front isDigit t) [])) (b ∷ t)
     go true h = h
     go false h = refl
 
@@ -100,7 +100,7 @@ pub ruleset for-fraction = (needs, fraction-none, fraction-other, fraction-point
 module _ (t : Text) (n : ℕ) (e : n ≡ digitsLen t) where
   dosage-by : isDosage t ≡ within 1 6 n && (isFraction (take (length t - n) (drop n t)) && any (within 49 57) t)
   unfolding isDosage
-  dosage-by = rw (rest t n, e, ← behind-is t, ← len-is t)
+  dosage-by = rw (rest t n, e, ← after-is t, ← len-is t)
 
   pub dosage-low : n < 1 → false ≡ isDosage t
   dosage-low h = rw (dosage-by, within-low 1 6 n h)

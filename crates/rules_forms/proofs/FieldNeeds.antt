@@ -16,7 +16,7 @@ use Rattle.lines.specs.Records.{Rec, II, recOf}
 use Rattle.lines_fields.proofs.FieldLaws.{fields-le}
 use Rattle.rules_definitions.specs.Forms.{anything, table, formOf, isJudged, isRelaxed, relaxedBy, isSound, isGiven}
 use Rattle.rules_forms.proofs.ClassLaws.{within-low, within-high}
-use Rattle.rules_forms.specs.FieldLeaves.{givenElsewhere, optionalIn, lowestIn, soundAs}
+use Rattle.rules_forms.specs.FieldLeaves.{outOfProvince, optionalIn, lowestIn, soundAs}
 use Rattle.rules_forms.proofs.FieldLaws.{text-is, field-is, relaxed-is, empty-true, empty-false, lowest-either, lowest-filled, sound-as, field-after}
 use Rattle.rules_forms.proofs.SoundLaws.{given-by}
 
@@ -38,32 +38,32 @@ pub ruleset for-form-of = (needs, form-kind, form-none)
 
 -- after: a text's rest, and its fields
 module _ (t : Text) (f s : ℕ) (e : s ≡ fieldsLen f t) where
-  pub behind-in : s ≤ length t
-  behind-in = rw e (fields-le f t)
+  pub after-in : s ≤ length t
+  after-in = rw e (fields-le f t)
 
-  pub behind-is : take (length t - s) (drop s t) ≡ drop (fieldsLen f t) t
-  behind-is = rw (← e) (rest t s)
+  pub after-is : take (length t - s) (drop s t) ≡ drop (fieldsLen f t) t
+  after-is = rw (← e) (rest t s)
 
-pub ruleset for-after-fields = (needs, behind-in, behind-is)
+pub ruleset for-after-fields = (needs, after-in, after-is)
 
--- is_refused, relaxed
+-- is_out_of_province, relaxed
 module _ (r t : Text) (d : t ≡ fieldOf r 1) where
   module _ (h : length t ≡ 0) (w : Text) (g : w ≡ fieldOf r 2) where
-    pub refused-none : length w ≡ 0 → false ≡ givenElsewhere (fieldOf r 1) (fieldOf r 2)
-    unfolding givenElsewhere
+    pub refused-none : length w ≡ 0 → false ≡ outOfProvince (fieldOf r 1) (fieldOf r 2)
+    unfolding outOfProvince
     refused-none k = simp (← d, ← g, empty-true t h, empty-true w k)
 
-    pub refused-why : (length w ≡ 0 → ⊥) → true ≡ givenElsewhere (fieldOf r 1) (fieldOf r 2)
-    unfolding givenElsewhere
+    pub refused-why : (length w ≡ 0 → ⊥) → true ≡ outOfProvince (fieldOf r 1) (fieldOf r 2)
+    unfolding outOfProvince
     refused-why k = simp (← d, ← g, empty-true t h, empty-false w k)
 
   module _ (h : length t ≡ 0 → ⊥) (x : Bool) (e : x ≡ same t (65 ∷ 66 ∷ [])) where
-    pub refused-ab : x ≡ true → false ≡ givenElsewhere (fieldOf r 1) (fieldOf r 2)
-    unfolding givenElsewhere
+    pub refused-ab : x ≡ true → false ≡ outOfProvince (fieldOf r 1) (fieldOf r 2)
+    unfolding outOfProvince
     refused-ab k = simp (← d, empty-false t h, ← e, k)
 
-    pub refused-other : x ≡ false → true ≡ givenElsewhere (fieldOf r 1) (fieldOf r 2)
-    unfolding givenElsewhere
+    pub refused-other : x ≡ false → true ≡ outOfProvince (fieldOf r 1) (fieldOf r 2)
+    unfolding outOfProvince
     refused-other k = simp (← d, empty-false t h, ← e, k)
 
 pub ruleset for-refused = (needs, refused-none, refused-why, refused-ab, refused-other)
@@ -87,13 +87,13 @@ module _ (l v : Text) (a : v ≡ drop (fieldsLen 4 l) l) (t : Text) (d : t ≡ f
     unfolding relaxedBy
     relaxed-20 k = simp (field-is, is-fifth, ← e, n, is-last, empty-false u k)
 
-    pub relaxed-18 : (y : Bool) → length u ≡ 0 → y ≡ givenElsewhere (fieldOf r 1) (fieldOf r 2) → y ≡ relaxedBy (fieldsOf l)
-    unfolding relaxedBy givenElsewhere
+    pub relaxed-18 : (y : Bool) → length u ≡ 0 → y ≡ outOfProvince (fieldOf r 1) (fieldOf r 2) → y ≡ relaxedBy (fieldsOf l)
+    unfolding relaxedBy outOfProvince
     relaxed-18 y k p = simp (field-is, is-fifth, ← e, n, is-last, empty-true u k, later 0, later 1) p
 
 pub ruleset for-relaxed = (needs, relaxed-h, relaxed-20, relaxed-18)
 
--- basic_rule
+-- rules1_and_2
 module _ (k : ℕ) (relaxed : Bool) (f : ℕ) (t : Text) where
   module _ (n : length t ≡ 0 → ⊥) (y : Bool) (p : y ≡ formOf k f t) where
     there : isJudged k f && not (optionalIn k relaxed f) && isEmpty t ≡ false
@@ -103,9 +103,9 @@ module _ (k : ℕ) (relaxed : Bool) (f : ℕ) (t : Text) where
     unfolding lowestIn
     basic-sound q = rw (there, ← p, q)
 
-    pub basic-misformed : y ≡ false → 2 ≡ lowestIn k relaxed f t 0
+    pub rule2-misformed : y ≡ false → 2 ≡ lowestIn k relaxed f t 0
     unfolding lowestIn
-    basic-misformed q = rw (there, ← p, q, empty-false t n)
+    rule2-misformed q = rw (there, ← p, q, empty-false t n)
 
   module _ (h : length t ≡ 0) (x : Bool) (e : x ≡ isJudged k f) where
     empty-free : (b : Bool) → _≡_ {A = ℕ} 0 (cond (not b && false) 2 0)
@@ -121,11 +121,11 @@ module _ (k : ℕ) (relaxed : Bool) (f : ℕ) (t : Text) where
       unfolding lowestIn
       basic-optional q = rw (← e, g, ← p, q, empty-true t h) (empty-free (formOf k f t))
 
-      pub basic-missing : y ≡ false → 1 ≡ lowestIn k relaxed f t 0
+      pub rule1-missing : y ≡ false → 1 ≡ lowestIn k relaxed f t 0
       unfolding lowestIn
-      basic-missing q = rw (← e, g, ← p, q, empty-true t h)
+      rule1-missing q = rw (← e, g, ← p, q, empty-true t h)
 
-pub ruleset for-basic = (needs, basic-unjudged, basic-optional, basic-missing, basic-sound, basic-misformed)
+pub ruleset for-basic = (needs, basic-unjudged, basic-optional, rule1-missing, basic-sound, rule2-misformed)
 
 -- relaxed_at
 module _ (k : ℕ) (l : Text) (f : ℕ) (t : Text) where

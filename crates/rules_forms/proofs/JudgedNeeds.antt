@@ -72,8 +72,8 @@ module _ (k n f e : ℕ) (d : k ≡ n) where
   pub judged-in : 2 ≤ f → f < e → isJudged n f ≡ between 2 e f → true ≡ isJudged k f
   judged-in h g r = rw (d, r, le-leb 2 f h, lt-ltb f e g)
 
-  pub judged-behind : 2 ≤ f → e ≤ f → isJudged n f ≡ between 2 e f → false ≡ isJudged k f
-  judged-behind h g r = rw (d, r, le-leb 2 f h, le-ltb f e g)
+  pub judged-after : 2 ≤ f → e ≤ f → isJudged n f ≡ between 2 e f → false ≡ isJudged k f
+  judged-after h g r = rw (d, r, le-leb 2 f h, le-ltb f e g)
 
 module _ (k f : ℕ) where
   pub judged-low : f < 2 → false ≡ isJudged k f
@@ -109,7 +109,7 @@ module _ (k f : ℕ) where
     judged-15 h g = judged-in k II f 16 e (omega arith) g (run-ii f (λ z. omega arith))
 
     pub judged-16 : 16 ≤ f → false ≡ isJudged k f
-    judged-16 h = judged-behind k II f 16 e (omega arith) h (run-ii f (λ z. omega arith))
+    judged-16 h = judged-after k II f 16 e (omega arith) h (run-ii f (λ z. omega arith))
 
   pub judged-none : (k ≡ 1 → ⊥) → ((k ≡ 2) ⊎ (k ≡ 8) → ⊥) → (k ≡ 3 → ⊥) → (k ≡ 4 → ⊥) → (k ≡ 5 → ⊥) → (k ≡ 6 → ⊥) → (k ≡ 7 → ⊥) → false ≡ isJudged k f
   unfolding isJudged table
@@ -117,7 +117,7 @@ module _ (k f : ℕ) where
       simp (ne-eqb k 1 a, ne-eqb k 2 (λ z. b (inl z)), ne-eqb k 8 (λ z. b (inr z)), ne-eqb k 3 c, ne-eqb k 4 d, ne-eqb k 5 e, ne-eqb k 6 g, ne-eqb k 7 h)
 
 pub ruleset for-is-judged =
-    (needs, run-ih, run-if, run-ip, run-ie, run-in, run-ia, judged-in, judged-behind, judged-low, judged-iv, judged-iv-not, judged-25, judged-6, judged-7, judged-15, judged-16, judged-none)
+    (needs, run-ih, run-if, run-ip, run-ie, run-in, run-ia, judged-in, judged-after, judged-low, judged-iv, judged-iv-not, judged-25, judged-6, judged-7, judged-15, judged-16, judged-none)
 
 -- is_optional
 module _ (k : ℕ) (relaxed : Bool) (f : ℕ) where

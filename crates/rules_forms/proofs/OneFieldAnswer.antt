@@ -19,8 +19,8 @@ one x r q e f = e ∙ sym f
 relaxed : (t : Text) → One (relaxedBy (fieldsOf t))
 relaxed t = one _
 
-basic-rule : (k : ℕ) (x : Bool) (f : ℕ) (t : Text) → One (lowestIn k x f t 0)
-basic-rule k x f t = one _
+rules1-and-2 : (k : ℕ) (x : Bool) (f : ℕ) (t : Text) → One (lowestIn k x f t 0)
+rules1-and-2 k x f t = one _
 
 is-sound : (k : ℕ) (t : Text) (f : ℕ) → One (isSound k (recOf t) f)
 is-sound k t f = one _
@@ -28,11 +28,11 @@ is-sound k t f = one _
 is-given : (k : ℕ) (t : Text) (f : ℕ) → One (isGiven k (recOf t) f)
 is-given k t f = one _
 
-lacks : (line t : Text) (f : ℕ) → One (isEmpty t && isGiven 4 (recOf line) f)
-lacks line t f = one _
+rule10-lacks : (line t : Text) (f : ℕ) → One (isEmpty t && isGiven 4 (recOf line) f)
+rule10-lacks line t f = one _
 
-behind : (t : Text) (f : ℕ) → One (drop (fieldsLen f t) t)
-behind t f = one _
+after-fields : (t : Text) (f : ℕ) → One (drop (fieldsLen f t) t)
+after-fields t f = one _
 
 sound-text : (k : ℕ) (line : Text) (f : ℕ) (t : Text) → One (soundAs k (recOf line) f t)
 sound-text k line f t = one _

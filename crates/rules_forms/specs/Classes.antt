@@ -1,4 +1,4 @@
--- The classes of bytes, as the functions on runs number them.
+-- Working definitions: the classes of bytes, as the functions on runs number them. No public contract rests on this page.
 -- Assumes nothing.
 use Prim.Native.Nat.{ℕ}
 use mathlib.Core.Bool.{Bool, cond}

@@ -8,8 +8,9 @@ use Rattle.lines.specs.Records.{Rec, II, IN}
 use Rattle.rules_definitions.specs.Forms.{formOf, isJudged, isRelaxed, isMissing, isMisformed}
 
 -- II 18 and 19 relax an event: "18 is neither empty nor AB, or 18 is empty and 19 is not"
-unfoldable pub givenElsewhere : Text → Text → Bool
-givenElsewhere t why = (not (isEmpty t) && not (same t (bytes "AB"))) || (isEmpty t && not (isEmpty why))
+unfoldable pub outOfProvince : Text → Text → Bool
+outOfProvince province country =
+    (not (isEmpty province) && not (same province (bytes "AB"))) || (isEmpty province && not (isEmpty country))
 
 -- which of rules 1 and 2 is broken at field f of a line of kind k, and where neither is, a later one's number, or 0
 unfoldable pub lowest : ℕ → Rec → ℕ → ℕ → ℕ

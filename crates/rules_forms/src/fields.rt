@@ -15,7 +15,7 @@ ghost use lib.ListN.{drop};
 ghost use Rattle.lines_fields.specs.Lines.{fieldsOf, fieldOf, fieldsLen};
 ghost use Rattle.lines.specs.Records.{IH, IP, II, IE, IN, IA, IF, recOf};
 ghost use Rattle.rules_definitions.specs.Forms.{formOf, isJudged, relaxedBy, isRelaxed, isSound, isGiven};
-ghost use Rattle.rules_forms.specs.FieldLeaves.{givenElsewhere, optionalIn, lowestIn, soundAs};
+ghost use Rattle.rules_forms.specs.FieldLeaves.{outOfProvince, optionalIn, lowestIn, soundAs};
 
 // The form of field f of an IH.
 fn form_ih(f: usize, t: &[u8]) -> bool
@@ -175,8 +175,8 @@ pub fn after_fields(text: &[u8], f: usize) -> &[u8]
 }
 
 // Whether II 18 and 19, the first two fields of the rest of a line, relax an event.
-fn is_given_elsewhere(rest: &[u8]) -> bool
-    ensures { λ r. ⌜ r ≡ givenElsewhere (fieldOf (now (rest .entry)) 1) (fieldOf (now (rest .entry)) 2) ⌝ }
+fn is_out_of_province(rest: &[u8]) -> bool
+    ensures { λ r. ⌜ r ≡ outOfProvince (fieldOf (now (rest .entry)) 1) (fieldOf (now (rest .entry)) 2) ⌝ }
 {
     let t = lines_fields::field_of(rest, 1);
     if t.len() == 0 {
@@ -199,7 +199,7 @@ pub fn relaxed(line: &[u8]) -> bool
     }
     let rest = after_fields(fifth, 13);
     if lines_fields::field_of(rest, 3).len() == 0 {
-        is_given_elsewhere(rest)
+        is_out_of_province(rest)
     } else {
         true
     }

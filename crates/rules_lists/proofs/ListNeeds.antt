@@ -139,7 +139,7 @@ pub ruleset for-count-among = (needs, count-among)
 
 pub ruleset for-counts-alike = (needs, count-alike)
 
--- sets_differ, count_sound
+-- rule13_sets_differ, count_sound
 module _ (a b : List Rec) (x : Bool) (e : x ≡ all (countIn b) a) where
   pub differ-first : x ≡ false → true ≡ setsDiffer a b
   unfolding setsDiffer allIn countIn

@@ -12,14 +12,14 @@ One {A} x = (r q : A) → r ≡ x → q ≡ x → r ≡ q
 one : {A : Type 0} (x : A) → One x
 one x r q e f = e ∙ sym f
 
-any-antigen : (t since : Text) → One (any (antigenIs t) (recs since))
-any-antigen t since = one _
+rule12-any-antigen : (t since : Text) → One (any (antigenIs t) (recs since))
+rule12-any-antigen t since = one _
 
-sets-differ : (own first : Text) → One (setsDiffer (recs own) (recs first))
-sets-differ own first = one _
+rule13-sets-differ : (own first : Text) → One (setsDiffer (recs own) (recs first))
+rule13-sets-differ own first = one _
 
-counts-sound : (t : Text) → One (countsSound (recs t))
-counts-sound t = one _
+rule13-counts-sound : (t : Text) → One (countsSound (recs t))
+rule13-counts-sound t = one _
 
-any-lot : (t block : Text) → One (any (lotIs t) (recs block))
-any-lot t block = one _
+rule14-any-lot : (t block : Text) → One (any (lotIs t) (recs block))
+rule14-any-lot t block = one _

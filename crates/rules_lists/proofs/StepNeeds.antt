@@ -56,7 +56,7 @@ module _ (a b : Text) (at by : ℕ) (x : Bool) (inv : x ≡ inStep (recs (drop a
 
 pub ruleset for-in-step = (needs, step-end, step-short, step-off, step-on, left-falls)
 
--- sets_differ: lines in step are one set
+-- rule13_sets_differ: lines in step are one set
 eqb-sym : (a b : ℕ) → eqb a b ≡ eqb b a
 eqb-sym a b = go (eqb a b) refl (eqb b a) refl
   where

@@ -7,7 +7,7 @@ use Rattle.house.specs.Text.{Text}
 use Rattle.lines.specs.Records.{recOf, recs}
 use Rattle.rules_forms.specs.TextLeaves.{valueOf}
 use Rattle.rules_forms.specs.FieldLeaves.{lowestIn}
-use Rattle.rules_plain.specs.PlainFields.{numberLater, uliLater, dayLater, bornOf, dateLater, versionLater, lotLater}
+use Rattle.rules_plain.specs.PlainFields.{rule7By, rule6By, rule8TodayBy, bornOf, rule8By, rule3By, rule14By}
 
 abbrev One : {A : Type 0} → A → Type 0
 One {A} x = (r q : A) → r ≡ x → q ≡ x → r ≡ q
@@ -15,23 +15,23 @@ One {A} x = (r q : A) → r ≡ x → q ≡ x → r ≡ q
 one : {A : Type 0} (x : A) → One x
 one x r q e f = e ∙ sym f
 
-number-rule : (k : ℕ) (t : Text) (place : ℕ) → One (lowestIn k false 2 t (numberLater (valueOf t) place))
-number-rule k t place = one _
+field2-number : (k : ℕ) (t : Text) (place : ℕ) → One (lowestIn k false 2 t (rule7By (valueOf t) place))
+field2-number k t place = one _
 
-uli-rule : (k : ℕ) (t ip : Text) → One (lowestIn k false 3 t (uliLater t (recOf ip)))
-uli-rule k t ip = one _
+field3-uli : (k : ℕ) (t ip : Text) → One (lowestIn k false 3 t (rule6By t (recOf ip)))
+field3-uli k t ip = one _
 
-day-rule : (t : Text) (today : ℕ) → One (lowestIn 3 false 25 t (dayLater t today))
-day-rule t today = one _
+ip25-birth : (t : Text) (today : ℕ) → One (lowestIn 3 false 25 t (rule8TodayBy t today))
+ip25-birth t today = one _
 
-date-rule : (k f : ℕ) (t : Text) (today born : ℕ) → One (lowestIn k false f t (dateLater t today born))
-date-rule k f t today born = one _
+ii6-in5-date : (k f : ℕ) (t : Text) (today born : ℕ) → One (lowestIn k false f t (rule8By t today born))
+ii6-in5-date k f t today born = one _
 
 born : (ip : Text) → One (bornOf (recOf ip))
 born ip = one _
 
-version-rule : (t : Text) → One (lowestIn 1 false 2 t (versionLater t))
-version-rule t = one _
+iv2-version : (t : Text) → One (lowestIn 1 false 2 t (rule3By t))
+iv2-version t = one _
 
-lot-rule : (x : Bool) (t block : Text) → One (lowestIn 4 x 15 t (lotLater t (recs block)))
-lot-rule x t block = one _
+ii15-lot : (x : Bool) (t block : Text) → One (lowestIn 4 x 15 t (rule14By t (recs block)))
+ii15-lot x t block = one _

@@ -1,4 +1,4 @@
--- What each need of the verdicts asks.
+-- What each need of the functions on fields that ask neither book nor ledger asks.
 -- Assumes nothing.
 use mathlib.Core.Path.{_≡_, refl, sym, _∙_}
 use mathlib.Core.Bool.{Bool, true, false, not, cond, _&&_}
@@ -20,7 +20,7 @@ use Rattle.rules_definitions.specs.Forms.{formOf, isUli, isJudged, isSound}
 use Rattle.rules_forms.specs.TextLeaves.{valueOf}
 use Rattle.rules_forms.specs.FieldLeaves.{optionalIn, lowestIn}
 use Rattle.rules_lists.specs.Among.{lotIs}
-use Rattle.rules_plain.specs.PlainFields.{numberLater, uliLater, dayLater, bornOf, dateLater, versionLater, lotLater}
+use Rattle.rules_plain.specs.PlainFields.{rule7By, rule6By, rule8TodayBy, bornOf, rule8By, rule3By, rule14By}
 use Rattle.rules_forms.proofs.FieldLaws.{text-is}
 use Rattle.rules_forms.proofs.SoundLaws.{ip-3, ip-25}
 
@@ -46,27 +46,27 @@ module _ (k : ℕ) (x : Bool) (f : ℕ) (t : Text) (later r : ℕ) (e : r ≡ lo
 
 pub ruleset for-rule = (needs, rule-broken, rule-later)
 
--- number_later, number_rule
+-- rule7_number, field2_number
 module _ (n place : ℕ) where
-  pub number-right : n ≡ place → 0 ≡ numberLater n place
-  unfolding numberLater
+  pub number-right : n ≡ place → 0 ≡ rule7By n place
+  unfolding rule7By
   number-right e = rw (eq-eqb n place e)
 
-  pub number-wrong : (n ≡ place → ⊥) → 7 ≡ numberLater n place
-  unfolding numberLater
+  pub number-wrong : (n ≡ place → ⊥) → 7 ≡ rule7By n place
+  unfolding rule7By
   number-wrong e = rw (ne-eqb n place e)
 
-pub number-by : (t : Text) (n place q : ℕ) → n ≡ valueOf t → q ≡ numberLater n place → q ≡ numberLater (valueOf t) place
+pub number-by : (t : Text) (n place q : ℕ) → n ≡ valueOf t → q ≡ rule7By n place → q ≡ rule7By (valueOf t) place
 number-by t n place q e h = rw (← e) h
 
 pub ruleset for-rule7-number = (needs, number-right, number-wrong)
 
 pub ruleset for-field2-number = (needs, rule-broken, rule-later, number-by)
 
--- uli_later
+-- rule6_uli
 module _ (t p u : Text) (f : u ≡ fieldOf p 3) (y : Bool) (g : y ≡ same t u) where
-  pub uli-same : y ≡ true → 0 ≡ uliLater t (recOf p)
-  unfolding uliLater
+  pub uli-same : y ≡ true → 0 ≡ rule6By t (recOf p)
+  unfolding rule6By
   uli-same k = rw (text-is p 3, ← f, ← g, k) (go (isSound IP (recOf p) 3))
     where
       go : (z : Bool) → _≡_ {A = ℕ} 0 (cond (z && false) 6 0)
@@ -74,17 +74,17 @@ module _ (t p u : Text) (f : u ≡ fieldOf p 3) (y : Bool) (g : y ≡ same t u) 
       go false = refl
 
   module _ (h : y ≡ false) (x : Bool) (e : x ≡ isUli u) where
-    pub uli-unsound : x ≡ false → 0 ≡ uliLater t (recOf p)
-    unfolding uliLater
+    pub uli-unsound : x ≡ false → 0 ≡ rule6By t (recOf p)
+    unfolding rule6By
     uli-unsound k = rw (ip-3 (recOf p), text-is p 3, ← f, ← e, k)
 
-    pub uli-other : x ≡ true → 6 ≡ uliLater t (recOf p)
-    unfolding uliLater
+    pub uli-other : x ≡ true → 6 ≡ rule6By t (recOf p)
+    unfolding rule6By
     uli-other k = rw (ip-3 (recOf p), text-is p 3, ← f, ← e, k, ← g, h)
 
 pub ruleset for-rule6-uli = (needs, uli-unsound, uli-same, uli-other)
 
--- day_later, born, date_later
+-- rule8_after_today, born, rule8_date
 module _ (t : Text) (d : Dated) (e : d ≡ datedOf t) where
   module _ (x : Date) (h : d ≡ Day x) where
     day-is : number t ≡ x .number
@@ -99,35 +99,35 @@ module _ (t : Text) (d : Dated) (e : d ≡ datedOf t) where
     is-dated = dated-true t x (sym e ∙ h)
 
     module _ (today : ℕ) where
-      pub day-after : today < x .number → 8 ≡ dayLater t today
-      unfolding dayLater
+      pub day-after : today < x .number → 8 ≡ rule8TodayBy t today
+      unfolding rule8TodayBy
       day-after k = rw (is-dated, day-is, lt-ltb today (x .number) k)
 
-      pub day-right : x .number ≤ today → 0 ≡ dayLater t today
-      unfolding dayLater
+      pub day-right : x .number ≤ today → 0 ≡ rule8TodayBy t today
+      unfolding rule8TodayBy
       day-right k = rw (is-dated, day-is, le-ltb today (x .number) k)
 
       module _ (born : ℕ) where
-        pub date-after : today < x .number → 8 ≡ dateLater t today born
-        unfolding dateLater
+        pub date-after : today < x .number → 8 ≡ rule8By t today born
+        unfolding rule8By
         date-after k = rw (is-dated, day-is, lt-ltb today (x .number) k)
 
         module _ (k : x .number ≤ today) where
-          pub date-before : x .number < born → 8 ≡ dateLater t today born
-          unfolding dateLater
+          pub date-before : x .number < born → 8 ≡ rule8By t today born
+          unfolding rule8By
           date-before m = rw (is-dated, day-is, le-ltb today (x .number) k, lt-ltb (x .number) born m)
 
-          pub date-right : born ≤ x .number → 0 ≡ dateLater t today born
-          unfolding dateLater
+          pub date-right : born ≤ x .number → 0 ≡ rule8By t today born
+          unfolding rule8By
           date-right m = rw (is-dated, day-is, le-ltb today (x .number) k, le-ltb (x .number) born m)
 
   module _ (h : d ≡ NoDate) (today : ℕ) where
-    pub day-none : 0 ≡ dayLater t today
-    unfolding dayLater
+    pub day-none : 0 ≡ rule8TodayBy t today
+    unfolding rule8TodayBy
     day-none = rw (dated-false t (sym e ∙ h))
 
-    pub date-none : (born : ℕ) → 0 ≡ dateLater t today born
-    unfolding dateLater
+    pub date-none : (born : ℕ) → 0 ≡ rule8By t today born
+    unfolding rule8By
     date-none born = rw (dated-false t (sym e ∙ h))
 
 module _ (p t : Text) (f : t ≡ fieldOf p 25) (d : Dated) (e : d ≡ datedOf t) where
@@ -145,26 +145,26 @@ pub ruleset for-rule8-date = (needs, date-after, date-before, date-right, date-n
 
 pub ruleset for-born = (needs, born-day, born-none)
 
--- version_later
+-- rule3_version
 module _ (t : Text) (x : Bool) (e : x ≡ same t (55 ∷ 46 ∷ 50 ∷ [])) where
-  pub version-right : x ≡ true → 0 ≡ versionLater t
-  unfolding versionLater
+  pub version-right : x ≡ true → 0 ≡ rule3By t
+  unfolding rule3By
   version-right h = rw (← e, h)
 
-  pub version-wrong : x ≡ false → 3 ≡ versionLater t
-  unfolding versionLater
+  pub version-wrong : x ≡ false → 3 ≡ rule3By t
+  unfolding rule3By
   version-wrong h = rw (← e, h)
 
 pub ruleset for-rule3-version = (needs, version-right, version-wrong)
 
--- lot_later
+-- rule14_lot_again
 module _ (t : Text) (ps : List Rec) (x : Bool) (e : x ≡ any (lotIs t) ps) where
-  pub lot-twice : x ≡ true → 14 ≡ lotLater t ps
-  unfolding lotLater
+  pub lot-twice : x ≡ true → 14 ≡ rule14By t ps
+  unfolding rule14By
   lot-twice h = rw (← e, h)
 
-  pub lot-once : x ≡ false → 0 ≡ lotLater t ps
-  unfolding lotLater
+  pub lot-once : x ≡ false → 0 ≡ rule14By t ps
+  unfolding rule14By
   lot-once h = rw (← e, h)
 
 pub ruleset for-rule14-lot-again = (needs, lot-twice, lot-once)

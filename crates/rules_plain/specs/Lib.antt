@@ -1,3 +1,3 @@
--- The later rules at a field that is sound, by its text.
+-- The rules at a field that asks neither book nor ledger, by its text.
 -- Assumes nothing.
 pub mod PlainFields

@@ -1,4 +1,4 @@
-// Verdicts: the lowest rule that is broken at a field with this text, 0 for none.
+// The lowest rule that is broken at a field that asks neither book nor ledger, by its text; 0 for none.
 use lines::II;
 use lines::IP;
 use lines::IV;
@@ -8,21 +8,21 @@ use rules_forms::value;
 use rules_lists::rule14_any_lot;
 ghost use mathlib.Core.Bool.{false};
 ghost use mathlib.Core.Path.{_≡_};
-ghost use Rattle.lines.specs.Records.{recOf, recs};
+ghost use Rattle.lines.specs.Records.{IV, IP, II, recOf, recs};
 ghost use Rattle.rules_forms.specs.TextLeaves.{valueOf};
 ghost use Rattle.rules_forms.specs.FieldLeaves.{lowestIn};
-ghost use Rattle.rules_plain.specs.PlainFields.{numberLater, uliLater, dayLater, bornOf, dateLater, versionLater, lotLater};
+ghost use Rattle.rules_plain.specs.PlainFields.{rule7By, rule6By, rule8TodayBy, bornOf, rule8By, rule3By, rule14By};
 
 // Rule 7, of a number and its place.
 fn rule7_number(n: u32, place: usize) -> u8
-    ensures { λ r. ⌜ r ≡ numberLater n place ⌝ }
+    ensures { λ r. ⌜ r ≡ rule7By n place ⌝ }
 {
     if n as usize == place { 0 } else { 7 }
 }
 
 // Field 2: rules 1, 2 and 7. The place is the line's among IP, II, IE, IN and IA lines, from 1.
 pub fn field2_number(kind: u8, t: &[u8], place: usize) -> u8
-    ensures { λ r. ⌜ r ≡ lowestIn kind false 2 (now (t .entry)) (numberLater (valueOf (now (t .entry))) place) ⌝ }
+    ensures { λ r. ⌜ r ≡ lowestIn kind false 2 (now (t .entry)) (rule7By (valueOf (now (t .entry))) place) ⌝ }
 {
     let r = rules1_and_2(kind, false, 2, t);
     if r != 0 {
@@ -33,7 +33,7 @@ pub fn field2_number(kind: u8, t: &[u8], place: usize) -> u8
 
 // Rule 6, of a ULI and the IP.
 fn rule6_uli(t: &[u8], ip: &[u8]) -> u8
-    ensures { λ r. ⌜ r ≡ uliLater (now (t .entry)) (recOf (now (ip .entry))) ⌝ }
+    ensures { λ r. ⌜ r ≡ rule6By (now (t .entry)) (recOf (now (ip .entry))) ⌝ }
 {
     let uli = lines_fields::field_of(ip, 3);
     if house::same(t, uli) {
@@ -44,7 +44,7 @@ fn rule6_uli(t: &[u8], ip: &[u8]) -> u8
 
 // Field 3 of a line below an IP: rules 1, 2 and 6.
 pub fn field3_uli(kind: u8, t: &[u8], ip: &[u8]) -> u8
-    ensures { λ r. ⌜ r ≡ lowestIn kind false 3 (now (t .entry)) (uliLater (now (t .entry)) (recOf (now (ip .entry)))) ⌝ }
+    ensures { λ r. ⌜ r ≡ lowestIn kind false 3 (now (t .entry)) (rule6By (now (t .entry)) (recOf (now (ip .entry)))) ⌝ }
 {
     let r = rules1_and_2(kind, false, 3, t);
     if r != 0 {
@@ -55,7 +55,7 @@ pub fn field3_uli(kind: u8, t: &[u8], ip: &[u8]) -> u8
 
 // Rule 8, of a date and today.
 fn rule8_after_today(t: &[u8], today: u32) -> u8
-    ensures { λ r. ⌜ r ≡ dayLater (now (t .entry)) today ⌝ }
+    ensures { λ r. ⌜ r ≡ rule8TodayBy (now (t .entry)) today ⌝ }
 {
     let d = dates::Date::of(t);
     match d {
@@ -66,7 +66,7 @@ fn rule8_after_today(t: &[u8], today: u32) -> u8
 
 // IP 25: rules 1, 2 and 8.
 pub fn ip25_birth(t: &[u8], today: u32) -> u8
-    ensures { λ r. ⌜ r ≡ lowestIn 3 false 25 (now (t .entry)) (dayLater (now (t .entry)) today) ⌝ }
+    ensures { λ r. ⌜ r ≡ lowestIn IP false 25 (now (t .entry)) (rule8TodayBy (now (t .entry)) today) ⌝ }
 {
     let r = rules1_and_2(IP, false, 25, t);
     if r != 0 {
@@ -88,7 +88,7 @@ pub fn born(ip: &[u8]) -> u32
 
 // Rule 8, of a date, today and the day of birth.
 fn rule8_date(t: &[u8], today: u32, born: u32) -> u8
-    ensures { λ r. ⌜ r ≡ dateLater (now (t .entry)) today born ⌝ }
+    ensures { λ r. ⌜ r ≡ rule8By (now (t .entry)) today born ⌝ }
 {
     let d = dates::Date::of(t);
     match d {
@@ -105,7 +105,7 @@ fn rule8_date(t: &[u8], today: u32, born: u32) -> u8
 
 // II 6, IN 5: rules 1, 2 and 8.
 pub fn ii6_in5_date(kind: u8, f: usize, t: &[u8], today: u32, born: u32) -> u8
-    ensures { λ r. ⌜ r ≡ lowestIn kind false f (now (t .entry)) (dateLater (now (t .entry)) today born) ⌝ }
+    ensures { λ r. ⌜ r ≡ lowestIn kind false f (now (t .entry)) (rule8By (now (t .entry)) today born) ⌝ }
 {
     let r = rules1_and_2(kind, false, f, t);
     if r != 0 {
@@ -116,14 +116,14 @@ pub fn ii6_in5_date(kind: u8, f: usize, t: &[u8], today: u32, born: u32) -> u8
 
 // Rule 3, of a version.
 fn rule3_version(t: &[u8]) -> u8
-    ensures { λ r. ⌜ r ≡ versionLater (now (t .entry)) ⌝ }
+    ensures { λ r. ⌜ r ≡ rule3By (now (t .entry)) ⌝ }
 {
     if house::same(t, b"7.2") { 0 } else { 3 }
 }
 
 // IV 2: rules 1 and 3.
 pub fn iv2_version(t: &[u8]) -> u8
-    ensures { λ r. ⌜ r ≡ lowestIn 1 false 2 (now (t .entry)) (versionLater (now (t .entry))) ⌝ }
+    ensures { λ r. ⌜ r ≡ lowestIn IV false 2 (now (t .entry)) (rule3By (now (t .entry))) ⌝ }
 {
     let r = rules1_and_2(IV, false, 2, t);
     if r != 0 {
@@ -134,14 +134,14 @@ pub fn iv2_version(t: &[u8]) -> u8
 
 // Rule 14, of a lot and lines before it.
 fn rule14_lot_again(t: &[u8], block: &[u8]) -> u8
-    ensures { λ r. ⌜ r ≡ lotLater (now (t .entry)) (recs (now (block .entry))) ⌝ }
+    ensures { λ r. ⌜ r ≡ rule14By (now (t .entry)) (recs (now (block .entry))) ⌝ }
 {
     if rule14_any_lot(t, block) { 14 } else { 0 }
 }
 
 // II 15: rules 1, 2 and 14. The block is its lines before this one.
 pub fn ii15_lot(relaxed: bool, t: &[u8], block: &[u8]) -> u8
-    ensures { λ r. ⌜ r ≡ lowestIn 4 relaxed 15 (now (t .entry)) (lotLater (now (t .entry)) (recs (now (block .entry)))) ⌝ }
+    ensures { λ r. ⌜ r ≡ lowestIn II relaxed 15 (now (t .entry)) (rule14By (now (t .entry)) (recs (now (block .entry)))) ⌝ }
 {
     let r = rules1_and_2(II, relaxed, 15, t);
     if r != 0 {

@@ -20,8 +20,8 @@ is-method t = one _
 reason-read : (t : Text) → One (pad 2 (reasonRead t))
 reason-read t = one _
 
-site-wrong : (s m : Text) → One (siteWrong s m)
-site-wrong s m = one _
+rule9-site-wrong : (s m : Text) → One (siteWrong s m)
+rule9-site-wrong s m = one _
 
-method-wrong : (s m : Text) → One (methodWrong s m)
-method-wrong s m = one _
+rule9-method-wrong : (s m : Text) → One (methodWrong s m)
+rule9-method-wrong s m = one _

@@ -180,7 +180,7 @@ read-two (a ∷ b ∷ t) m n e = rw (ne-eqb a 32 e)
 
 pub ruleset for-reason-read = (needs, read-none, read-one, read-blank, read-two)
 
--- without, site_wrong, method_wrong
+-- without, rule9_site_wrong, rule9_method_wrong
 module _ (x a y b : Text) (u : Bool) (e : u ≡ same x a) where
   pub without-other : u ≡ false → false ≡ without x a y b
   unfolding without

@@ -37,7 +37,8 @@ fn packed(t: &[u8]) -> u32
     n as u32 * 16777216 + a * 65536 + b * 256 + c
 }
 
-// Whether a text is one of the sites, by its number: LA LG LL MO MS NO RA RG RL VE WO LAF LAL LAU LDG LLL LLU LVG OTH RAF RAL RAU RDG RLL RLU RVG UNK.
+// Whether a text is one of the sites, by its number: LA LG LL MO MS NO RA RG RL VE WO LAF LAL LAU LDG LLL LLU LVG OTH RAF RAL RAU RDG RLL
+// RLU RVG UNK.
 pub fn is_site(t: &[u8]) -> bool
     ensures { λ r. ⌜ r ≡ isSite (now (t .entry)) ⌝ }
 {

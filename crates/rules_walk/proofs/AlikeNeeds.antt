@@ -18,7 +18,7 @@ use Rattle.lines.specs.Records.{recOf}
 use Rattle.lines_fields.proofs.FieldLaws.{start-zero, lengthen-take, fields-le, fields-alike}
 use Rattle.rules_definitions.specs.Blocks.{sameEvent, joins}
 use Rattle.rules_forms.proofs.FieldLaws.{text-is, field-after}
-use Rattle.rules_walk.specs.From.{sameDated, sameTyped, sameBehind, sameFrom, InCommon}
+use Rattle.rules_walk.specs.From.{sameDated, sameTyped, sameAfter, sameFrom, InCommon}
 
 -- alike: in a text t the field after n fields starts at a position, and the later ones where the fields from position i on say
 pub record Starts (t : Text) (n at i : ℕ) : Type 0 where
@@ -122,25 +122,25 @@ above n k h z = omega arith
 -- same_from: where n is 0, 2 or 4, a and b go on at p and q
 module _ (n : ℕ) (a b : Text) where
   pub from-other : (x : Bool) → n ≡ 0 → x ≡ same (fieldOf a 1) (fieldOf b 1) → x ≡ false → false ≡ sameFrom n a b
-  unfolding sameFrom sameBehind
+  unfolding sameFrom sameAfter
   from-other x k e h = rw (k, ← e, h)
 
   module _ (y : Bool) where
     pub from-1 : n ≡ 1 → y ≡ sameTyped a b → y ≡ sameFrom n a b
-    unfolding sameFrom sameBehind sameTyped
+    unfolding sameFrom sameAfter sameTyped
     from-1 k e = rw k e
 
     pub from-3 : n ≡ 3 → y ≡ sameDated a b → y ≡ sameFrom n a b
-    unfolding sameFrom sameBehind sameDated
+    unfolding sameFrom sameAfter sameDated
     from-3 k e = rw k e
 
     pub from-5 : n ≡ 5 → y ≡ same (fieldOf a 1) (fieldOf b 1) → y ≡ sameFrom n a b
-    unfolding sameFrom sameBehind
+    unfolding sameFrom sameAfter
     from-5 k e = rw k e
 
     module _ (p q : Text) (c : p ≡ drop (fieldsLen 1 a) a) (d : q ≡ drop (fieldsLen 1 b) b) where
       pub from-0 : (x : Bool) → n ≡ 0 → x ≡ same (fieldOf a 1) (fieldOf b 1) → x ≡ true → y ≡ sameTyped p q → y ≡ sameFrom n a b
-      unfolding sameFrom sameBehind sameTyped
+      unfolding sameFrom sameAfter sameTyped
       from-0 x k f h e =
           rw (
             k,
@@ -156,15 +156,15 @@ module _ (n : ℕ) (a b : Text) where
           e
 
       pub from-2 : n ≡ 2 → y ≡ sameDated p q → y ≡ sameFrom n a b
-      unfolding sameFrom sameBehind sameDated
+      unfolding sameFrom sameAfter sameDated
       from-2 k e = rw (k, ← field-after a p 1 0 c, ← field-after b q 1 0 d, ← field-after a p 1 2 c, ← field-after b q 1 2 d) e
 
       pub from-4 : n ≡ 4 → y ≡ same (fieldOf p 1) (fieldOf q 1) → y ≡ sameFrom n a b
-      unfolding sameFrom sameBehind
+      unfolding sameFrom sameAfter
       from-4 k e = rw (k, ← field-after a p 1 0 c, ← field-after b q 1 0 d) e
 
   pub from-all : (n ≡ 0 → ⊥) → (n ≡ 1 → ⊥) → (n ≡ 2 → ⊥) → (n ≡ 3 → ⊥) → (n ≡ 4 → ⊥) → (n ≡ 5 → ⊥) → true ≡ sameFrom n a b
-  unfolding sameFrom sameBehind
+  unfolding sameFrom sameAfter
   from-all z0 z1 z2 z3 z4 z5 = six (above n 5 (above n 4 (above n 3 (above n 2 (above n 1 (above n 0 zero-le z0) z1) z2) z3) z4) z5)
     where
       six : 6 ≤ n → true ≡ sameFrom n a b
@@ -186,26 +186,26 @@ swap false true z = refl
 swap false false z = refl
 
 module _ (p q : Text) (n at : ℕ) (g : InCommon p q n at) where
-  behind-p : (j : ℕ) → fieldOf (drop at p) (suc j) ≡ fieldOf p (suc (n + j))
-  behind-p j = field-after p (drop at p) n j (ap (λ (k : ℕ). drop k p) (g .here))
+  after-p : (j : ℕ) → fieldOf (drop at p) (suc j) ≡ fieldOf p (suc (n + j))
+  after-p j = field-after p (drop at p) n j (ap (λ (k : ℕ). drop k p) (g .here))
 
-  behind-q : (j : ℕ) → fieldOf (drop at q) (suc j) ≡ fieldOf q (suc (n + j))
-  behind-q j = field-after q (drop at q) n j (ap (λ (k : ℕ). drop k q) (g .there))
+  after-q : (j : ℕ) → fieldOf (drop at q) (suc j) ≡ fieldOf q (suc (n + j))
+  after-q j = field-after q (drop at q) n j (ap (λ (k : ℕ). drop k q) (g .there))
 
-  same-behind : (f : ℕ) → sameBehind n (suc f) (drop at p) (drop at q) ≡ same (fieldOf p (suc f)) (fieldOf q (suc f))
-  unfolding sameBehind
-  same-behind f = go (leb (suc f) n) refl
+  same-after : (f : ℕ) → sameAfter n (suc f) (drop at p) (drop at q) ≡ same (fieldOf p (suc f)) (fieldOf q (suc f))
+  unfolding sameAfter
+  same-after f = go (leb (suc f) n) refl
     where
-      go : (x : Bool) → leb (suc f) n ≡ x → sameBehind n (suc f) (drop at p) (drop at q) ≡ same (fieldOf p (suc f)) (fieldOf q (suc f))
+      go : (x : Bool) → leb (suc f) n ≡ x → sameAfter n (suc f) (drop at p) (drop at q) ≡ same (fieldOf p (suc f)) (fieldOf q (suc f))
       go true h = rw h (sym (is-same (fieldOf p (suc f)) (fieldOf q (suc f)) (fields-alike p q n (g .alike) f (leb-true (suc f) n h))))
       go false h =
           let i : suc f - n ≡ suc (f - n) = omega (arith, leb-false (suc f) n h) in
           let k : n + (f - n) ≡ f = omega (arith, leb-false (suc f) n h) in
-          rw (h, i, behind-p (f - n), behind-q (f - n), k)
+          rw (h, i, after-p (f - n), after-q (f - n), k)
 
   module _ (a b : Text) (c : p ≡ drop (fieldsLen 2 a) a) (d : q ≡ drop (fieldsLen 2 b) b) where
-    same-line : (f : ℕ) → sameBehind n (suc f) (drop at p) (drop at q) ≡ same (fieldOf a (suc (2 + f))) (fieldOf b (suc (2 + f)))
-    same-line f = rw (same-behind f, field-after a p 2 f c, field-after b q 2 f d)
+    same-line : (f : ℕ) → sameAfter n (suc f) (drop at p) (drop at q) ≡ same (fieldOf a (suc (2 + f))) (fieldOf b (suc (2 + f)))
+    same-line f = rw (same-after f, field-after a p 2 f c, field-after b q 2 f d)
 
     pub joins-from : (y : Bool) → y ≡ sameFrom n (take (length p - at) (drop at p)) (take (length q - at) (drop at q)) → y ≡ joins (recOf a) (recOf b)
     unfolding joins sameEvent sameFrom

@@ -123,16 +123,16 @@ module _ (s t : Text) (d : t ≡ fieldOf s 1) (x : Bool) where
   typed-not e h = rw (← d, ← e, h)
 
   module _ (h : x ≡ true) (r q : Text) (b : r ≡ drop (fieldsLen 1 s) s) (c : q ≡ drop (fieldsLen 1 r) r) (y : Bool) where
-    behind-two : (j : ℕ) → fieldOf s (suc (1 + (1 + j))) ≡ fieldOf q (suc j)
-    behind-two j = sym (field-after r q 1 j c ∙ field-after s r 1 (1 + j) b)
+    after-two : (j : ℕ) → fieldOf s (suc (1 + (1 + j))) ≡ fieldOf q (suc j)
+    after-two j = sym (field-after r q 1 j c ∙ field-after s r 1 (1 + j) b)
 
     pub dated-both : (u : Text) → x ≡ isDate t → u ≡ fieldOf q 1 → y ≡ isCode u → y ≡ datedFrom s
     unfolding datedFrom
-    dated-both u e g f = rw (← d, ← e, h, behind-two 0, ← g) f
+    dated-both u e g f = rw (← d, ← e, h, after-two 0, ← g) f
 
     pub typed-all : x ≡ isType t → y ≡ datedFrom q → y ≡ typedFrom s
     unfolding datedFrom typedFrom
-    typed-all e f = rw (← d, ← e, h, behind-two 0, behind-two 2) f
+    typed-all e f = rw (← d, ← e, h, after-two 0, after-two 2) f
 
 pub ruleset for-dated-code = (needs, long-as, date-filled, dated-not, dated-both)
 

@@ -36,7 +36,7 @@ module _ (f e : Text) (b p at : ℕ) (i : at ≡ p) (o : Order) (c : o ≡ order
 
 pub ruleset for-stands = (needs, stands-less, stands-more, stands-here, stands-past)
 
--- names_before: what the binary search still has to do
+-- rule15_named_before: what the binary search still has to do
 abbrev pub Seeks : Text → List ℕ → Text → ℕ → Bool → ℕ → ℕ → Type 0
 Seeks f ps e b x lo hi = Halves (λ (i : ℕ). standing f e b (getD ps i 0)) (λ (i : ℕ). true) false x lo hi
 

@@ -27,7 +27,7 @@ use Rattle.rules_definitions.specs.Blocks.{isInBlock, eventOf, sameEvent, joins
 use Rattle.rules_definitions.proofs.EventLaws.{named, uli-length, date-length, code-says}
 use Rattle.rules_walk.specs.Firsts.{startAfter, namedBefore}
 use Rattle.rules_walk.specs.Inside.{recAt, Passed, firstsIn}
-use Rattle.rules_walk.proofs.PassLaws.{firsts-split, firsts-behind, firsts-ahead}
+use Rattle.rules_walk.proofs.PassLaws.{firsts-split, firsts-after, firsts-ahead}
 
 -- 1. The fields that name an event
 
@@ -188,14 +188,14 @@ module _ (f : Text) (l : Rec) where
     named-firsts bs c = bool-ext (any (names l) bs) (any (hits f (eventOf l)) (firstsIn f bs)) (named-there bs c) (named-back bs c)
 
 -- of all the first II lines, those that start before the line at hand are those after
-pub named-behind : (f : Text) (e : Event) (bs : List Rec) → Passed f bs → namedBefore f (startAfter f bs) e ≡ any (λ (p : ℕ). same (eventAt f p) e) (firstsIn f bs)
+pub named-after : (f : Text) (e : Event) (bs : List Rec) → Passed f bs → namedBefore f (startAfter f bs) e ≡ any (λ (p : ℕ). same (eventAt f p) e) (firstsIn f bs)
 unfolding namedBefore
-named-behind f e bs c =
+named-after f e bs c =
     let b = startAfter f bs in
     firsts-split f (λ (p : ℕ). ltb p b && same (eventAt f p) e) bs c
     ∙ ap (λ (x : Bool). any (λ (p : ℕ). ltb p b && same (eventAt f p) e) (firstsIn f bs) || x) (firsts-ahead f (λ (p : ℕ). same (eventAt f p) e) b (recs (drop b f)) bs (omega arith))
     ∙ or-false (any (λ (p : ℕ). ltb p b && same (eventAt f p) e) (firstsIn f bs))
-    ∙ firsts-behind f (λ (p : ℕ). same (eventAt f p) e) b bs c (omega arith)
+    ∙ firsts-after f (λ (p : ℕ). same (eventAt f p) e) b bs c (omega arith)
 
 -- 4. Rule 15
 
@@ -216,14 +216,14 @@ passed-block f l before c = go (joinsOpen l before)
     go false = c
 
 -- an earlier block names the line's event exactly if a first II line that starts before the line's block does
-pub rule-15 : (f : Text) (l : Rec) (before : List Rec) → Passed f before
+pub rule15-named : (f : Text) (l : Rec) (before : List Rec) → Passed f before
     → isRepeated l before ≡ (isInBlock l && namedBefore f (startAfter f (beforeBlock l before)) (eventOf l))
 unfolding isRepeated
-rule-15 f l before c = go (isInBlock l) refl
+rule15-named f l before c = go (isInBlock l) refl
   where
     go : (b : Bool) → isInBlock l ≡ b
         → (b && any (λ (p : Rec). isInBlock p && sameEvent l p) (beforeBlock l before)) ≡ (b && namedBefore f (startAfter f (beforeBlock l before)) (eventOf l))
     go true e =
         named-firsts f l (of-true (isInBlock l) e) (beforeBlock l before) (passed-block f l before c)
-        ∙ sym (named-behind f (eventOf l) (beforeBlock l before) (passed-block f l before c))
+        ∙ sym (named-after f (eventOf l) (beforeBlock l before) (passed-block f l before c))
     go false e = refl

@@ -24,7 +24,7 @@ use Rattle.rules_definitions.specs.Blocks.{isInBlock, eventOf, joins, nearestOf
 use Rattle.rules_walk.specs.Firsts.{startAfter, indexOf, namedBefore}
 use Rattle.rules_walk.specs.Inside.{Passed, firstsFrom, firstsIn}
 use Rattle.rules_walk.proofs.PassLaws.{place-passed, firsts-split}
-use Rattle.rules_walk.proofs.NamedLaws.{not-IE, none-in, event-key, joins-event, at-hand, joined-in, rule-15}
+use Rattle.rules_walk.proofs.NamedLaws.{not-IE, none-in, event-key, joins-event, at-hand, joined-in, rule15-named}
 use Rattle.rules_walk.proofs.FindLaws.{any-at, index-any}
 
 -- of a list whose keys ascend strictly, no element before b has b's key
@@ -119,7 +119,7 @@ module _ (f : Text) where
         (rw (index-any f (λ (p : ℕ). ltb p b && same (eventAt f p) (eventAt f b))) u)
 
     pub once-new : (l : Rec) (before : List Rec) → Passed f (l ∷ before) → isRepeated l before ≡ false
-    once-new l before c = rule-15 f l before (c .2) ∙ go (isInBlock l) refl (namedBefore f (startAfter f (beforeBlock l before)) (eventOf l)) refl
+    once-new l before c = rule15-named f l before (c .2) ∙ go (isInBlock l) refl (namedBefore f (startAfter f (beforeBlock l before)) (eventOf l)) refl
       where
         go : (x : Bool) → isInBlock l ≡ x → (y : Bool) → namedBefore f (startAfter f (beforeBlock l before)) (eventOf l) ≡ y → (x && y) ≡ false
         go false e y q = refl

@@ -20,8 +20,8 @@ build : (f : Text) (area : List ℕ) (r q : Built) (s t : List ℕ) → (r ≡ b
     → (r ≡ q) × (s ≡ t)
 build f area r q s t = two
 
-names-before : (f : Text) (index : List ℕ) (e : Text) (b : ℕ) (r q : Bool) → r ≡ foundBefore f index e b → q ≡ foundBefore f index e b → r ≡ q
-names-before f index e b r q = one
+rule15-named-before : (f : Text) (index : List ℕ) (e : Text) (b : ℕ) (r q : Bool) → r ≡ foundBefore f index e b → q ≡ foundBefore f index e b → r ≡ q
+rule15-named-before f index e b r q = one
 
 count-of : (f : Text) (letter : ℕ) (ps : List ℕ) (r q : ℕ) → r ≡ length (partOf f letter ps) → q ≡ length (partOf f letter ps) → r ≡ q
 count-of f letter ps r q = one

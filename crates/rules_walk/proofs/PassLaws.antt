@@ -148,9 +148,9 @@ firsts-split f q (l ∷ before) p =
 
 -- those after start before the line at hand, those ahead do not
 module _ (f : Text) (q : ℕ → Bool) (b : ℕ) where
-  pub firsts-behind : (before : List Rec) → Passed f before → startAfter f before ≤ b → any (λ (p : ℕ). ltb p b && q p) (firstsIn f before) ≡ any q (firstsIn f before)
-  firsts-behind [] p h = refl
-  firsts-behind (l ∷ before) p h = go (begins l before) (firsts-behind before (p .2) (omega (arith, less)))
+  pub firsts-after : (before : List Rec) → Passed f before → startAfter f before ≤ b → any (λ (p : ℕ). ltb p b && q p) (firstsIn f before) ≡ any q (firstsIn f before)
+  firsts-after [] p h = refl
+  firsts-after (l ∷ before) p h = go (begins l before) (firsts-after before (p .2) (omega (arith, less)))
     where
       less : startAfter f before < b
       less = omega (arith, start-on (length before) f, next-past f (startAfter f before) (p .0))

@@ -20,7 +20,7 @@ use Rattle.rules_definitions.specs.Blocks.{isInBlock, sameEvent, eventOf}
 use Rattle.rules_walk.specs.Firsts.{startAfter, namedBefore}
 use Rattle.rules_walk.specs.Inside.{recAt, nextLine, Passed}
 use Rattle.rules_walk.proofs.PassLaws.{by-lines, recs-first, start-on}
-use Rattle.rules_walk.proofs.NamedLaws.{named-firsts, named-behind}
+use Rattle.rules_walk.proofs.NamedLaws.{named-firsts, named-after}
 
 -- 1. The first line of a text whose lines have their LF, with more after it
 
@@ -116,5 +116,5 @@ module _ (f : Text) (p : ℕ) (within : p ≤ length f) where
     -- an II in a block of the event stands before the position exactly if a first II line that starts before it names the event
     pub named-upto : (l : Rec) → T (isInBlock l) → any (λ (q : Rec). isInBlock q && sameEvent l q) (reverse (recs (take p f))) ≡ namedBefore f p (eventOf l)
     named-upto l b =
-        named-firsts f l b (reverse (recs (take p f))) passed-upto ∙ sym (named-behind f (eventOf l) (reverse (recs (take p f))) passed-upto)
+        named-firsts f l b (reverse (recs (take p f))) passed-upto ∙ sym (named-after f (eventOf l) (reverse (recs (take p f))) passed-upto)
         ∙ ap (λ (n : ℕ). namedBefore f n (eventOf l)) start-upto

@@ -52,12 +52,12 @@ over (x ∷ xs) [] = []
 over (x ∷ xs) (a ∷ area) = x ∷ over xs area
 
 -- the longest file whose index is built
-abbrev pub bytesMost : ℕ
-bytesMost = 5000000
+abbrev pub fileMost : ℕ
+fileMost = 5000000
 
 -- the index is built in an area of n places: the file is not too long, and its blocks are not too many to be sorted or for the area
 unfoldable pub canBuild : Text → ℕ → Bool
-canBuild f n = leb (length f) bytesMost && (leb (length (firstsOf f)) placesMost && leb (length (firstsOf f)) n)
+canBuild f n = leb (length f) fileMost && (leb (length (firstsOf f)) placesMost && leb (length (firstsOf f)) n)
 
 -- how many blocks there are, and whether no two of them name one event; too many where the index is not built
 unfoldable pub builtOf : Text → ℕ → Built
@@ -66,7 +66,7 @@ builtOf f n = cond (canBuild f n) (Blocks (length (firstsOf f)) (ascends (events
 -- the area after: the index in its front. Where the index is not built: the first II lines in the file's order, as many as fit; of a file that
 -- is too long none is looked for, and the area is as it was.
 unfoldable pub builtIn : Text → List ℕ → List ℕ
-builtIn f area = cond (canBuild f (length area)) (over (indexOf f) area) (cond (leb (length f) bytesMost) (over (firstsOf f) area) area)
+builtIn f area = cond (canBuild f (length area)) (over (indexOf f) area) (cond (leb (length f) fileMost) (over (firstsOf f) area) area)
 
 -- Submission types
 

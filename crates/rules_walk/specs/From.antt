@@ -1,4 +1,5 @@
--- Working definitions: what the functions on blocks ask of an II from a field on, which is the first of the text, and of two of them. No public contract rests on this page.
+-- Working definitions: what the functions on blocks ask of an II from a field on, which is the first of the text, and of two of them. No
+-- public contract rests on this page.
 -- Assumes nothing.
 use Prim.Native.Nat.{ℕ, _-_}
 use mathlib.Core.Path.{_≡_}
@@ -26,14 +27,15 @@ sameDated t u = same (fieldOf t 1) (fieldOf u 1) && same (fieldOf t 3) (fieldOf 
 unfoldable pub sameTyped : Text → Text → Bool
 sameTyped t u = same (fieldOf t 1) (fieldOf u 1) && (same (fieldOf t 3) (fieldOf u 3) && same (fieldOf t 5) (fieldOf u 5))
 
--- two IIs, given from after their first n fields, counted from field 3, which are alike: is field f, counted so, the same? It is one of those n, or it is
+-- two IIs, given from after their first n fields, counted from field 3, which are alike: is field f, counted so, the same? It is one of
+-- those n, or it is
 -- the same in both texts
-unfoldable pub sameBehind : ℕ → ℕ → Text → Text → Bool
-sameBehind n f t u = leb f n || same (fieldOf t (f - n)) (fieldOf u (f - n))
+unfoldable pub sameAfter : ℕ → ℕ → Text → Text → Bool
+sameAfter n f t u = leb f n || same (fieldOf t (f - n)) (fieldOf u (f - n))
 
 -- they have one ULI, one type, one date and one vaccine
 unfoldable pub sameFrom : ℕ → Text → Text → Bool
-sameFrom n t u = sameBehind n 1 t u && (sameBehind n 2 t u && (sameBehind n 4 t u && sameBehind n 6 t u))
+sameFrom n t u = sameAfter n 1 t u && (sameAfter n 2 t u && (sameAfter n 4 t u && sameAfter n 6 t u))
 
 -- the first n fields of two texts are the same, and in both the next one starts at the same position
 pub record InCommon (t u : Text) (n at : ℕ) : Type 0 where

@@ -1,4 +1,4 @@
-// Blocks: whether an II is in one, and whether two of them name one event. Each is read from field 3 on, field by field.
+// Blocks: whether an II is in one, and whether two of them are of one event and one type. Each is read from field 3 on, field by field.
 use lines::II;
 use lines_fields::field_from;
 use rules_forms::after_fields;

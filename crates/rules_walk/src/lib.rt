@@ -1,4 +1,5 @@
-// Blocks of II lines, and their index: where the first II line of each block starts, by event; looking an event up in it, and its parts by submission type.
+// Blocks of II lines, and their index: where the first II line of each block starts, by event; looking an event up in it, and its parts by
+// submission type.
 mod blocks;
 mod find;
 mod line;

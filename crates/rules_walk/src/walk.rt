@@ -15,7 +15,7 @@ ghost use lib.ListN.{length, take, drop};
 ghost use Rattle.lines_places.specs.Sorted.{sortedAt, sortedApart};
 ghost use Rattle.lines.specs.Records.{IE, isKind, recOf};
 ghost use Rattle.rules_definitions.specs.Blocks.{joins};
-ghost use Rattle.rules_walk.specs.Firsts.{bytesMost, firstsOf, over, builtOf, builtIn};
+ghost use Rattle.rules_walk.specs.Firsts.{fileMost, firstsOf, over, builtOf, builtIn};
 ghost use Rattle.rules_walk.specs.Inside.{recAt, turnOf};
 
 // Whether a line does not join the line at last.
@@ -64,7 +64,7 @@ fn turn(file: &[u8], at: usize, last: usize) -> Turn
 
 // Writes where each block's first II line starts to the front of an area, as many as fit; how many blocks there are.
 fn gather(file: &[u8], index: &mut [u32]) -> usize
-    requires { ⌜ length (now file) ≤ bytesMost ⌝ }
+    requires { ⌜ length (now file) ≤ fileMost ⌝ }
     ensures { λ r. ⌜ r ≡ length (firstsOf (now (file .entry))) ⌝ }
     ensures { λ _. ⌜ now (index .exit) ≡ over (firstsOf (now (file .entry))) (now (index .entry)) ⌝ }
 {

@@ -78,12 +78,12 @@ fn by_ledger(file: &[u8], numbers: &[u8], book: &[u8], q: Sections, ledger: &[u8
 }
 
 fn lend(file: &[u8], numbers: &[u8], book: &[u8], q: Sections, ledger: &[u8], live: usize) {
-    let mut room = [0u32; 130];
+    let mut buffer = [0u32; 130];
     let mut area = [238u8; 600];
-    judged(file, numbers, book, q, ledger, live, &mut room, &mut area);
+    judged(file, numbers, book, q, ledger, live, &mut buffer, &mut area);
 }
 
-// Judges with as much of the room and of the area as the case says.
+// Judges with as much of the buffer and of the area as the case says.
 fn judged(
     file: &[u8],
     numbers: &[u8],
@@ -91,13 +91,13 @@ fn judged(
     q: Sections,
     ledger: &[u8],
     live: usize,
-    room: &mut [u32],
+    buffer: &mut [u32],
     area: &mut [u8],
 ) {
     let today = vectors_stream::number_at(numbers, 0);
     let blocks = vectors_stream::wide_number(vectors_stream::number_at(numbers, 4));
     let bytes = vectors_stream::wide_number(vectors_stream::number_at(numbers, 8));
-    if room.len() < blocks {
+    if buffer.len() < blocks {
         return;
     }
     if area.len() < bytes {
@@ -111,7 +111,7 @@ fn judged(
         q,
         ledger,
         live,
-        &mut room[from..blocks],
+        &mut buffer[from..blocks],
         &mut area[from..bytes],
     );
     say_judged(j, &area[from..bytes]);

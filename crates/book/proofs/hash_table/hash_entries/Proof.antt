@@ -4,12 +4,12 @@ use Rattle.book.proofs.HashLaws.{for-hash-entries}
 use mathlib.Core.Path.{_≡_}
 use Prim.Native.Nat.{_-_, _*_, _≤_}
 use lib.ListN.{length}
-use Rattle.book.specs.LookUp.{noteRows}
+use Rattle.book.specs.LookUp.{hashEntries}
 use Rattle.book.proofs.hash_table.hash_entries.Statement.{statement}
 use Rattle.book.proofs.hash_table.hash_entries.Tie as tie
 
 abbrev Inv-loop : tie.InvT-loop
-Inv-loop book k table₀ from w n i₀ table i = (i ≤ n) × (n * w .entry ≤ length book - from) × (table ≡ noteRows book k from i table₀) × (length table ≡ length table₀)
+Inv-loop book k table₀ from w n i₀ table i = (i ≤ n) × (n * w .entry ≤ length book - from) × (table ≡ hashEntries book k from i table₀) × (length table ≡ length table₀)
 
 abbrev μ-loop : tie.MeasureT-loop
 μ-loop book k table₀ from w n i₀ table i = n - i

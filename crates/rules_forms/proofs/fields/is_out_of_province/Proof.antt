@@ -1,11 +1,11 @@
--- `rules_forms::fields::is_given_elsewhere` meets its contract.
+-- `rules_forms::fields::is_out_of_province` meets its contract.
 -- Assumes nothing.
 use Rattle.rules_forms.proofs.FieldNeeds.{for-refused}
-use Rattle.rules_forms.proofs.fields.is_given_elsewhere.Statement.{statement}
-use Rattle.rules_forms.proofs.fields.is_given_elsewhere.Tie as tie
+use Rattle.rules_forms.proofs.fields.is_out_of_province.Statement.{statement}
+use Rattle.rules_forms.proofs.fields.is_out_of_province.Tie as tie
 
-pub is-given-elsewhere-spec : {M : Type 1} → statement M
-is-given-elsewhere-spec =
+pub is-out-of-province-spec : {M : Type 1} → statement M
+is-out-of-province-spec =
     tie.close
     (tie.spec
     (λ c. search for-refused)
