@@ -12,7 +12,7 @@ use Rattle.ledger.specs.Ledger.{Event, ledgerOk, liveIn}
 use Rattle.ledger.proofs.HeldLaws.{one-ledger}
 use Rattle.house.proofs.Small.{clash}
 use Rattle.rules.specs.FileE.{fileE}
-use Rattle.answers.specs.Answers.{Lent, Outcome, left, check, isAccepted}
+use Rattle.answers.specs.Answers.{Lent, Outcome, left, added, check, isAccepted}
 use Rattle.demands.specs.Examples.{zeros, eventOn, lentE}
 use Rattle.demands.specs.Runs.{Step, Run, ledgerAfterRun}
 use Rattle.demands.specs.Demands.{Demand2, Check, By, OnlyFirst, OnlyFirstThere}
@@ -69,7 +69,7 @@ unfolding file-e isAccepted
 e-accepted = ap isAccepted (computed .e-accepted)
 
 e-live : In (eventOn "20220901") (liveIn (check file-e .ledger))
-unfolding file-e
+unfolding file-e added
 e-live =
     ledger-after (lentE fileE (zeros 38)) .holds e-accepted (eventOn "20220901") .1
     (inl (subst (λ (es : List Event). In (eventOn "20220901") es) (sym (computed .e-adds)) (inl refl)))
