@@ -1,5 +1,5 @@
 #!/usr/bin/env python3
-"""Writes the vectors of the programs crates/*_vectors: what each reads (stdin) and must print (stdout).
+"""Writes the vectors of the programs crates/vectors_*: what each reads (stdin) and must print (stdout).
 
 The expected values are worked out here from document 01, without the Rattle code. usage: tests/vectors/make.py (in the project's root)"""
 import calendar
