@@ -1,6 +1,6 @@
 -- Look-up in any bytes, by any sections: the entry that the hash of a code names is asked first, then a binary search goes on among the
--- entries of one kind, which all
--- have the same width. For bytes that start with a valid book, by its own sections, it says what the entries say, whatever the hash table
+-- entries of one kind, which all have the same width. For bytes that start with a valid book, by its own sections, it says what the entries
+-- say, whatever the hash table
 -- (proofs/StandingLaws).
 -- Assumes nothing.
 use Prim.Native.Nat.{ℕ, zero, suc, _+_, _-_, _*_, _/_, _%_}

@@ -129,7 +129,7 @@ fn copy_book(book: &[u8], buffer: &mut [u8])
     }
 }
 
-// Copies a book to the front of a buffer and notes its entries in what is left of it. Where the buffer is shorter than the book it stays as lent.
+// Copies a book to the front of a buffer and hashes its entries into what is left of it. Where the buffer is shorter than the book it stays as lent.
 pub fn hash_book(book: &[u8], sections: Sections, buffer: &mut [u8])
     ensures { λ _. ⌜ now (buffer .exit) ≡ withHashTable (now (book .entry)) sections (now (buffer .entry)) ⌝ }
 {
