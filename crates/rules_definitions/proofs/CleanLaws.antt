@@ -15,6 +15,8 @@ use Rattle.house.proofs.Members.{distinct-fewer, same-one}
 use Rattle.house.proofs.Decisions.{same-is}
 use Rattle.lines.specs.Records.{II, recs}
 use Rattle.ledger.specs.Ledger.{Event, eventForm}
+use Rattle.lines.specs.Marks.{judgedText}
+use Rattle.lines.proofs.MarkLaws.{judged-nil}
 use Rattle.rules_definitions.specs.Forms.{fieldIn, text}
 use Rattle.rules_definitions.specs.Contexts.{Context, contextsOf, contextsIn}
 use Rattle.rules_definitions.specs.Blocks.{isInBlock, eventOf, isRepeated, beginsBlock, eventsOf, adds, changes, deletes}
@@ -31,13 +33,14 @@ use Rattle.rules_definitions.proofs.BlockLaws.{eventAt, beginsAt, begin
 -- a field that is not empty is there
 there : (fs : List Text) (f : ℕ) → T (not (isEmpty (fieldIn fs f))) → f ≤ length fs
 unfolding fieldIn
-there fs f t = go (leb f (length fs)) refl
+there fs f h = go (leb f (length fs)) refl
   where
-    go : (b : Bool) → leb f (length fs) ≡ b → f ≤ length fs
+    go : (t : Bool) → leb f (length fs) ≡ t → f ≤ length fs
     go true e = leb-true f (length fs) e
     go false e =
-        let h = leb-false f (length fs) e in
-        absurd (subst (λ (x : Text). T (not (isEmpty x))) (List·getD-eq-default ([] ∷ fs) [] {n = f} (omega arith)) t)
+        let l : length ([] ∷ fs) ≤ f = omega (arith, leb-false f (length fs) e) in
+        let n : judgedText (getD ([] ∷ fs) f []) ≡ [] = ap judgedText (List·getD-eq-default ([] ∷ fs) [] l) ∙ judged-nil in
+        absurd (subst (λ (x : Text). T (not (isEmpty x))) n h)
 
 module _ (s : Setting) (file : Text) (clean : findingsOf s file ≡ []) where
   unbroken : (h : Context) (f r : ℕ) → In h (contextsIn file) → 1 ≤ f → f ≤ length (h .line .fields) → T (isBroken s (seenAt s h) f r) → ⊥
