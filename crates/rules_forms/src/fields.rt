@@ -183,7 +183,11 @@ fn is_out_of_province(province: &[u8], country: &[u8]) -> bool
             return true;
         }
     }
-    if house::same(province, b"AB") { false } else { true }
+    if house::same(province, b"AB") {
+        false
+    } else {
+        true
+    }
 }
 
 // Whether an II with these texts of fields 5, 18, 19 and 20 is a relaxed event.
