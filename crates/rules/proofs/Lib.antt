@@ -16,6 +16,7 @@ pub mod AtLaws
 pub mod BlankLaws
 pub mod RuleLaws
 pub mod ReadLaws
+pub mod RepeatLaws
 pub mod SettingLaws
 -- What the functions' own needs ask
 mod EmitNeeds
