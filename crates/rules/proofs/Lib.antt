@@ -10,10 +10,13 @@ pub mod StartStateLaws
 pub mod RestLaws
 pub mod TurnLaws
 -- The rules at a field
+pub mod PlacedLaws
 pub mod Collapse
 pub mod AtLaws
 pub mod BlankLaws
 pub mod RuleLaws
+pub mod ReadLaws
+pub mod RepeatLaws
 pub mod SettingLaws
 -- What the functions' own needs ask
 mod EmitNeeds

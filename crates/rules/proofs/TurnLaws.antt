@@ -6,19 +6,17 @@ use mathlib.Core.List.{List, _++_}
 use Prim.Native.Nat.{ℕ, zero, suc, _+_, _-_, _<_}
 use native.Mathlib.Numerals.{sub-one}
 use native.Mathlib.Omega.{arith}
-use lib.Dec.{eqb}
 use lib.ListN.{length, drop}
 use Rattle.house.specs.Text.{Text, same, front}
 use Rattle.lines_fields.specs.declared.LineAt.{LineAt}
 use Rattle.lines_fields.specs.Lines.{LineIs, fieldsOf}
-use Rattle.lines.specs.Records.{Rec, II, IE, isKind, recordOf, recOf, recs}
+use Rattle.lines.specs.Records.{Rec, IE, isKind, recordOf, recOf, recs}
 use Rattle.lines_fields.specs.Inside.{part}
 use Rattle.ledger.specs.Ledger.{Event}
 use Rattle.rules_definitions.specs.Forms.{text}
 use Rattle.rules_definitions.specs.Blocks.{adds, changes, deletes, eventOf, isRepeated}
 use Rattle.rules_definitions.specs.Seen.{Setting, Seen}
-use Rattle.rules_definitions.specs.Rules.{rule1, rule2, rule3, rule4, rule5, rule6, rule7, rule8, rule9, rule10, rule11, rule12, rule13, rule14, rule15, rule16, rule17, rule18, asks, afterToday, beforeBirth, rules, rulesIn, rulesOf, brokenAt}
-use Rattle.rules_definitions.specs.Codes.{isKnown, isInForce, dayIsSound, recordDay, pairIn}
+use Rattle.rules_definitions.specs.Rules.{Numbered, rule15, rule16, rule17, rule18, asks, rulesIn, rulesOf, isPlaced, rulesAt, brokenAt}
 use Rattle.rules_definitions.specs.Findings.{found, fieldsFindings, lineFindings}
 use Rattle.rules_fields.specs.declared.Broken.{Broken}
 use Rattle.rules.specs.declared.State.{State}
@@ -28,6 +26,7 @@ use Rattle.rules.specs.Walk.{span, linesBefore, Holds, BlockIs, headAt, 
 use Rattle.rules.proofs.KeepLaws.{keep-append}
 use Rattle.rules.proofs.WalkLaws.{seen-is}
 use Rattle.rules.proofs.RestLaws.{rest-step}
+use Rattle.rules.proofs.ReadLaws.{each-rule, same-broken}
 
 -- FIELD BY FIELD
 
@@ -60,19 +59,17 @@ module _ (p t : ℕ) (kn : ℕ → Text → Bool) (fo : ℕ → ℕ → Text →
   abbrev seen : Bool → Seen
   seen b = seenBy place line ip head since inb block joined own first repeated b
 
-  masked : (u : Bool) → (u ≡ true → live ≡ alive) → (at same : Bool) → (at && (u && same) && live ≡ at && (u && same) && alive) × (at && (u && same) && not live ≡ at && (u && same) && not alive)
-  masked true h at same = (rw (h refl), rw (h refl))
-  masked false h true same = (refl, refl)
-  masked false h false same = (refl, refl)
+  masked : (u : Bool) → (u ≡ true → live ≡ alive) → (same : Bool) → (u && same && live ≡ u && same && alive) × (u && same && not live ≡ u && same && not alive)
+  masked true h same = (rw (h refl), rw (h refl))
+  masked false h same = (refl, refl)
 
   pub live-free : (f : ℕ) → brokenAt (sameBook p t kn fo ev) (seen live) f ≡ brokenAt (sameBook p t kn fo other) (seen alive) f
-  unfolding brokenAt rulesOf rulesIn rules rule1 rule2 rule3 rule4 rule5 rule6 rule7 rule8 rule9 rule10 rule11 rule12 rule13 rule14 rule15 rule16 rule17 rule18 asks seenBy isKnown isInForce afterToday beforeBirth dayIsSound recordDay pairIn
+  unfolding brokenAt rulesAt rulesOf seenBy rule15 rule16 rule17 rule18 asks
   live-free f =
-      rw (
-        masked inb h (eqb (recOf line .kind) II && eqb f 4) (same (text (recOf line) 4) adds) .0,
-        masked inb h (eqb (recOf line .kind) II && eqb f 4) (same (text (recOf line) 4) changes) .1,
-        masked inb h (eqb (recOf line .kind) II && eqb f 4) (same (text (recOf line) 4) deletes) .1,
-      )
+      same-broken (sameBook p t kn fo ev) (sameBook p t kn fo other) (seen live) (seen alive) f (isPlaced (recOf line .kind) f) (rulesIn p)
+      (each-rule (sameBook p t kn fo ev) other (seen live) repeated alive f
+      (λ (x : Numbered). x .broken (sameBook p t kn fo ev) (seen live) f ≡ x .broken (sameBook p t kn fo other) (seen alive) f)
+      (λ x e. e) refl (masked inb h (same (text (recOf line) 4) adds) .0) (masked inb h (same (text (recOf line) 4) changes) .1) (masked inb h (same (text (recOf line) 4) deletes) .1))
 
   pub fields-free : (n f m : ℕ) → fieldsFindings (sameBook p t kn fo ev) n (seen live) f m ≡ fieldsFindings (sameBook p t kn fo other) n (seen alive) f m
   fields-free n f m = fields-same (sameBook p t kn fo ev) (sameBook p t kn fo other) n (seen live) (seen alive) live-free f m

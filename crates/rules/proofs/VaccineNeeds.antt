@@ -92,32 +92,32 @@ module _ (line t ip block own first book : Text) (q : Sections) (place born : �
         (by-either II line (fieldOf line 8) 8 refl (codeOf 1 (fieldOf line 8) book q day) false refl
         ∙ code-low 8 1 (fieldOf line 8) (ap (λ (u : Text). codeText 1 u []) (text-ii 8)))
         (ap (λ (u : Bool). cond u 13 0) (masked (facts .joined) (λ (os : List Rec). countsSound os && (countsSound (recs first) && setsDiffer os (recs first))) (recs own) (v .own) (bl .own-is))
-        ∙ rw (rule13-sets-back (v .own) (recs first), rule13-ii8 s v kind-ii, bl .joined-is, bl .first-is))
-        (rw (rule15-ii8 s v kind-ii, bl .repeated-is))
+        ∙ rw (rule13-sets-back (v .own) (recs first), rule13-ii8 s v, bl .joined-is, bl .first-is))
+        (rw (rule15-ii8 s v, bl .repeated-is))
         ∙ sym (code-two s v II 8 kind-ii (known 8 1) (out 8 1) (rule13 s v 8) (rule15 s v 8) 13 15 refl refl (ii-8 s v kind-ii))
 
     site-ii : _≡_ {A = ℕ} (cond (siteWrong (fieldOf line 9) (text (recOf line) 10) && (isGiven II (recOf line) 9 && isGiven II (recOf line) 10)) 9 0) (cond (rule9 s v 9) 9 0)
     site-ii =
         ap (λ (u : Text). cond (siteWrong u (text (recOf line) 10) && (isGiven II (recOf line) 9 && isGiven II (recOf line) 10)) 9 0) (sym (text-is line 9))
         ∙ ap (λ (l : Rec). cond (siteWrong (text l 9) (text l 10) && (isGiven II l 9 && isGiven II l 10)) 9 0) (sym (sh .line-is))
-        ∙ ap (ruled 9) (sym (rule9-ii9 s v kind-ii))
+        ∙ ap (ruled 9) (sym (rule9-ii9 s v))
 
     at-9 : listed (ii9Site (recOf line) R (fieldOf line 9)) ≡ brokenAt s v 9
     unfolding ii9Site
     at-9 =
-        three-same _ _ _ _ _ _ (low-ii 9 (λ (u : Text). rules4and5Of (isEmpty u) (isSite u) false)) site-ii (lack-ii 9 10 (rule10-ii9 s v kind-ii))
+        three-same _ _ _ _ _ _ (low-ii 9 (λ (u : Text). rules4and5Of (isEmpty u) (isSite u) false)) site-ii (lack-ii 9 10 (rule10-ii9 s v))
         ∙ sym (site-two s v 9 kind-ii (isSite (text (v .line) 9)) (rule9 s v 9) (rule10 s v 9) 9 10 refl refl (ii-9 s v kind-ii))
 
     method-ii : _≡_ {A = ℕ} (cond (methodWrong (text (recOf line) 9) (fieldOf line 10) && (isGiven II (recOf line) 9 && isGiven II (recOf line) 10)) 9 0) (cond (rule9 s v 10) 9 0)
     method-ii =
         ap (λ (u : Text). cond (methodWrong (text (recOf line) 9) u && (isGiven II (recOf line) 9 && isGiven II (recOf line) 10)) 9 0) (sym (text-is line 10))
         ∙ ap (λ (l : Rec). cond (methodWrong (text l 9) (text l 10) && (isGiven II l 9 && isGiven II l 10)) 9 0) (sym (sh .line-is))
-        ∙ ap (ruled 9) (sym (rule9-ii10 s v kind-ii))
+        ∙ ap (ruled 9) (sym (rule9-ii10 s v))
 
     at-10 : listed (ii10Method (recOf line) R (fieldOf line 10)) ≡ brokenAt s v 10
     unfolding ii10Method
     at-10 =
-        three-same _ _ _ _ _ _ (low-ii 10 (λ (u : Text). rules4and5Of (isEmpty u) (isMethod u) false)) method-ii (lack-ii 10 9 (rule10-ii10 s v kind-ii))
+        three-same _ _ _ _ _ _ (low-ii 10 (λ (u : Text). rules4and5Of (isEmpty u) (isMethod u) false)) method-ii (lack-ii 10 9 (rule10-ii10 s v))
         ∙ sym (site-two s v 10 kind-ii (isMethod (text (v .line) 10)) (rule9 s v 10) (rule10 s v 10) 9 10 refl refl (ii-10 s v kind-ii))
 
     code-11 : codeIn II (v .line) 11 ≡ codeText 3 (reasonRead (fieldOf line 11)) []
@@ -147,13 +147,13 @@ module _ (line t ip block own first book : Text) (q : Sections) (place born : �
     at-12 : listed (ii12Dosage (recOf line) R (fieldOf line 12)) ≡ brokenAt s v 12
     unfolding ii12Dosage
     at-12 =
-        three-same _ _ _ _ _ _ (low-ii 12 (λ (u : Text). 0)) (lack-ii 12 13 (rule10-ii12 s v kind-ii)) refl
+        three-same _ _ _ _ _ _ (low-ii 12 (λ (u : Text). 0)) (lack-ii 12 13 (rule10-ii12 s v)) refl
         ∙ sym (more-at s v II 12 kind-ii (rule10 s v 12) 10 refl (ii-12 s v kind-ii))
 
     at-13 : listed (ii13DosageType (recOf line) R (fieldOf line 13) book q day) ≡ brokenAt s v 13
     unfolding ii13DosageType codeIn bookKind codeRead
     at-13 =
-        three-same _ _ _ _ _ _ (code-ii 13 5 (fieldOf line 13) (ap (λ (u : Text). codeText 5 u []) (text-ii 13))) (lack-ii 13 12 (rule10-ii13 s v kind-ii)) refl
+        three-same _ _ _ _ _ _ (code-ii 13 5 (fieldOf line 13) (ap (λ (u : Text). codeText 5 u []) (text-ii 13))) (lack-ii 13 12 (rule10-ii13 s v)) refl
         ∙ sym (code-more s v II 13 kind-ii (known 13 5) (out 13 5) (rule10 s v 13) 10 refl (ii-13 s v kind-ii))
 
     at-15 : listed (broken (lowestIn II R 15 (fieldOf line 15) (rule14By (fieldOf line 15) (recs block))) 0 0) ≡ brokenAt s v 15

@@ -2,9 +2,8 @@
 -- Assumes nothing.
 use Prim.Native.Nat.{ℕ}
 use mathlib.Core.Path.{_≡_}
-use mathlib.Core.Bool.{true, cond, _&&_}
+use mathlib.Core.Bool.{Bool, true, cond, _&&_}
 use mathlib.Core.List.{List, reverse}
-use lib.ListN.{drop}
 use lib.Dec.{eqb, ltb}
 use Rattle.house.specs.Text.{Text, those, within}
 use Rattle.lines.specs.Records.{Rec, II, IE, IN, IA, isKind, recordOf, recOf, recs}
@@ -12,16 +11,20 @@ use Rattle.book.specs.declared.Sections.{Sections}
 use Rattle.rules_definitions.specs.Forms.{text, isSound}
 use Rattle.rules_definitions.specs.Seen.{Setting, Seen}
 use Rattle.rules_definitions.specs.Codes.{dayIsSound, recordDay}
-use Rattle.rules_definitions.specs.Rules.{rulesOf, brokenBy}
+use Rattle.rules_definitions.specs.Rules.{Numbered, rulesAt, brokenBy}
 use Rattle.rules_forms.specs.TextLeaves.{valueOf}
 use Rattle.rules_plain.specs.PlainFields.{bornOf}
 use Rattle.rules_fields.specs.declared.Day.{Day}
 use Rattle.rules_fields.specs.declared.Facts.{Facts}
 use Rattle.rules_fields.specs.Look.{knownBy, forceBy}
 
--- those of the rules after the first two that are broken at a field
+-- a rule after the first two
+abbrev pub isLater : Numbered → Bool
+isLater x = ltb 2 (x .number)
+
+-- those of the later rules that are placed at a field and broken there
 unfoldable pub laterAt : Setting → Seen → ℕ → List ℕ
-laterAt s v f = brokenBy s v f (drop 2 (rulesOf s))
+laterAt s v f = brokenBy s v f (those isLater (rulesAt s (v .line .kind) f))
 
 -- how many of n fields of a record of kind k are judged: no rule is placed after II 15
 unfoldable pub judgedFields : ℕ → ℕ → ℕ

@@ -1,11 +1,12 @@
--- Working definitions: findings put to the area one by one. No public contract rests on this page.
+-- Working definitions: findings put to the area one by one, and a line seen alone. No public contract rests on this page.
 -- Assumes nothing.
 use Prim.Native.Nat.{ℕ, _+_, _*_, _/_, _%_}
-use mathlib.Core.Bool.{cond}
+use mathlib.Core.Bool.{false, cond}
 use mathlib.Core.List.{List, [], _∷_, _++_}
 use lib.ListN.{length, set}
 use lib.Dec.{eqb, ltb}
 use Rattle.house.specs.Text.{Text}
+use Rattle.rules_definitions.specs.Seen.{Seen}
 use Rattle.rules_definitions.specs.Findings.{Finding}
 use Rattle.rules_fields.specs.declared.Broken.{Broken}
 
@@ -41,3 +42,21 @@ some r = cond (eqb r 0) [] (r ∷ [])
 -- up to three rules that are broken at a field
 unfoldable pub listed : Broken → List ℕ
 listed b = some (b .a) ++ (some (b .b) ++ some (b .c))
+
+-- what is seen from a line, as one whose event no earlier block names
+unfoldable pub alone : Seen → Seen
+alone v =
+    record {
+      place = v .place;
+      line = v .line;
+      ip = v .ip;
+      head = v .head;
+      antigens = v .antigens;
+      in-block = v .in-block;
+      block = v .block;
+      not-first = v .not-first;
+      own = v .own;
+      first = v .first;
+      repeated = false;
+      live = v .live;
+    }
