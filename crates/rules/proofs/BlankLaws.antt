@@ -1,20 +1,22 @@
 -- Fields that no rule is placed on have no findings: those of an II after 15, those of an IP but 2, 3 and 25, all after 25, and all of a
 -- line of no kind.
 -- Assumes nothing.
-use mathlib.Core.Path.{_≡_, refl, ap, _∙_}
-use mathlib.Core.Bool.{false}
-use mathlib.Core.List.{List, [], _∷_, _++_, append-assoc, append-nil}
+use mathlib.Core.Path.{_≡_, refl, sym, ap, _∙_}
+use mathlib.Core.Bool.{Bool, true, false}
+use mathlib.Core.List.{List, [], _∷_, _++_, append-assoc}
 use Prim.Native.Nat.{ℕ, zero, suc, _+_, _-_, _≤_, _<_}
 use native.Mathlib.Nat.{zero-add}
+use native.Mathlib.Numerals.{sub-one}
 use native.Mathlib.Omega.{arith}
-use borrow.Author.Tests.{ne-eqb, lt-leb}
-use lib.Dec.{T, leb}
+use borrow.Author.Tests.{ne-eqb, lt-leb, le-ltb, leb-true, leb-false}
+use lib.Dec.{T, ltb, leb}
 use Rattle.house.specs.Text.{within}
 use Rattle.lines.specs.Records.{IV, IH, IP, II, IE, IN, IA, IF}
 use Rattle.rules_definitions.specs.Forms.{table}
 use Rattle.rules_definitions.specs.Seen.{Setting, Seen}
 use Rattle.rules_definitions.specs.Rules.{Place, rules, rulesIn, rulesOf, brokenAt}
 use Rattle.rules_definitions.specs.Findings.{found, fieldsFindings}
+use Rattle.rules.specs.Fields.{lastField}
 use Rattle.rules.proofs.PlacedLaws.{placesPass, liesIn, past, no-place, no-rule}
 
 -- the fields that some rule is placed on, by kind
@@ -80,6 +82,14 @@ module _ (s : Setting) where
   unfolding rulesOf rulesIn rules table
   kinds-pass = tt
 
+  first-pass : T (placesPass (λ (p : Place). ltb 1 (p .field)) (rulesOf s))
+  unfolding rulesOf rulesIn rules table
+  first-pass = tt
+
+  last-pass : T (placesPass (λ (p : Place). leb (p .field) (lastField (p .kind))) (rulesOf s))
+  unfolding rulesOf rulesIn rules table lastField
+  last-pass = tt
+
   most-pass : T (placesPass (λ (p : Place). leb (p .field) 25) (rulesOf s))
   unfolding rulesOf rulesIn rules table
   most-pass = tt
@@ -92,6 +102,14 @@ module _ (s : Setting) (v : Seen) where
   -- a field after the 25th, of any kind
   pub field-blank : (f : ℕ) → 25 < f → brokenAt s v f ≡ []
   field-blank f h = no-place s v (λ (p : Place). leb (p .field) 25) (v .line .kind) f refl (most-pass s) (lt-leb f 25 h)
+
+  -- the first field
+  pub first-blank : (f : ℕ) → f ≤ 1 → brokenAt s v f ≡ []
+  first-blank f h = no-place s v (λ (p : Place). ltb 1 (p .field)) (v .line .kind) f refl (first-pass s) (le-ltb 1 f h)
+
+  -- those after the last that a rule is placed on
+  pub last-blank : (k f : ℕ) → v .line .kind ≡ k → lastField k < f → brokenAt s v f ≡ []
+  last-blank k f e h = no-place s v (λ (p : Place). leb (p .field) (lastField (p .kind))) k f e (last-pass s) (lt-leb f (lastField k) h)
 
   pub ip-blank : (f : ℕ) → v .line .kind ≡ IP → (f ≡ 2 → ⊥) → (f ≡ 3 → ⊥) → (f ≡ 25 → ⊥) → brokenAt s v f ≡ []
   ip-blank f k n2 n3 n25 = no-rule s v IP f ipFields k (ip-places s) (simp (ne-eqb f 2 n2, ne-eqb f 3 n3, ne-eqb f 25 n25))
@@ -115,28 +133,22 @@ module _ (s : Setting) (v : Seen) where
       let d : suc a + b ≡ suc (a + b) = omega arith in
       rw (d, run-append n (f + 1) a b, e, append-assoc)
 
-  -- a run of one
-  pub run-one : (n f : ℕ) → fieldsFindings s n v f 1 ≡ found n f (brokenAt s v f)
-  unfolding fieldsFindings
-  run-one n f = append-nil (found n f (brokenAt s v f))
+  -- fields without a finding are passed over, as many as there are of them
+  pub blank-skip : (n f a m : ℕ) → ((g : ℕ) → f ≤ g → g < f + a → brokenAt s v g ≡ []) → fieldsFindings s n v f m ≡ fieldsFindings s n v (f + a) (m - a)
+  blank-skip n f a m h = go (leb a m) refl
+    where
+      go : (b : Bool) → leb a m ≡ b → fieldsFindings s n v f m ≡ fieldsFindings s n v (f + a) (m - a)
+      go true e =
+          let q : a ≤ m = leb-true a m e in
+          let d : m ≡ a + (m - a) = omega arith in
+          ap (fieldsFindings s n v f) d ∙ run-append n f a (m - a) ∙ rw (blank-run n f a h)
+      go false e =
+          let q : m < a = leb-false a m e in
+          let d : m - a ≡ 0 = omega arith in
+          blank-run n f m (λ g i j. h g i (omega arith)) ∙ rw d (sym (blank-run n (f + a) 0 (λ g i j. absurd (omega arith))))
 
-  -- all fields of an IP that has 25 at least
-  pub person-run : (n m : ℕ) → v .line .kind ≡ IP → 25 ≤ m
-      → fieldsFindings s n v 1 m ≡ found n 2 (brokenAt s v 2) ++ (found n 3 (brokenAt s v 3) ++ found n 25 (brokenAt s v 25))
-  person-run n m k h =
-      let e : m ≡ 1 + (1 + (1 + (21 + (1 + (m - 25))))) = omega arith in
-      ap (fieldsFindings s n v 1) e
-      ∙ rw (
-        run-append n 1 1 (1 + (1 + (21 + (1 + (m - 25))))),
-        run-append n 2 1 (1 + (21 + (1 + (m - 25)))),
-        run-append n 3 1 (21 + (1 + (m - 25))),
-        run-append n 4 21 (1 + (m - 25)),
-        run-append n 25 1 (m - 25),
-        blank-run n 1 1 (λ g a b. ip-blank g k (λ z. omega arith) (λ z. omega arith) (λ z. omega arith)),
-        blank-run n 4 21 (λ g a b. ip-blank g k (λ z. omega arith) (λ z. omega arith) (λ z. omega arith)),
-        blank-run n 26 (m - 25) (λ g a b. ip-blank g k (λ z. omega arith) (λ z. omega arith) (λ z. omega arith)),
-        run-one n 2,
-        run-one n 3,
-        run-one n 25,
-        append-nil,
-      )
+  -- one field, and those after it
+  pub fields-on : (n f left : ℕ) → 0 < left → fieldsFindings s n v f left ≡ found n f (brokenAt s v f) ++ fieldsFindings s n v (f + 1) (left - 1)
+  unfolding fieldsFindings
+  fields-on n f zero h = absurd (omega arith)
+  fields-on n f (suc left) h = rw sub-one

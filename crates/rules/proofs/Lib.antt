@@ -21,11 +21,11 @@ pub mod SettingLaws
 -- What the functions' own needs ask
 mod EmitNeeds
 mod WalkNeeds
+mod ToldLaws
 mod LowestLaws
-mod AnswerNeeds
-mod CodeNeeds
-mod FieldNeeds
+mod CodeLaws
 mod ReasonLaws
+mod FieldNeeds
 mod HeadNeeds
 mod LineNeeds
 mod PassNeeds

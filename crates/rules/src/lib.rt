@@ -7,18 +7,15 @@ mod pass;
 mod vaccine;
 mod walk;
 
+use book::Sections;
+use lines_fields::Span;
 pub use pass::judge;
 use rules_fields::Day;
+use rules_fields::Facts;
 pub use rules_walk::MOST_BYTES;
 pub use rules_walk::count_of;
 pub use rules_walk::keep;
 pub use rules_walk::part_of;
-
-// A part of the file.
-struct Span {
-    start: usize,
-    end: usize,
-}
 
 // What later lines ask again of the nearest IP, II and IN: the day of birth, and the days.
 struct Known {
@@ -73,4 +70,30 @@ pub enum Judged {
         not_immunized: usize,
     },
     TooMany,
+}
+
+// What a file is judged by, beside the book and the ledger: today, and where the kinds of the book stand.
+struct By {
+    today: u32,
+    sections: Sections,
+}
+
+// What is known at a line beside its marks, as `Seen` has it: its kind, its number, its place; where it and the next line start; its IP's ULI
+// and day of birth; its II's vaccine; the day of its II or IN; where the IE lines just before it start; where its block starts; where its own
+// IE lines end, and those of its block's first II; and what the index and the ledger say of it.
+struct Here {
+    kind: u8,
+    n: usize,
+    place: usize,
+    at: usize,
+    next: usize,
+    uli: Span,
+    born: u32,
+    vaccine: Span,
+    day: Day,
+    since: usize,
+    block: usize,
+    own: usize,
+    first: Span,
+    facts: Facts,
 }
