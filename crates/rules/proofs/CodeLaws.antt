@@ -8,11 +8,11 @@ use Rattle.house.specs.Text.{Text, isEmpty}
 use Rattle.lines.specs.Records.{Rec, II}
 use Rattle.book.specs.declared.Sections.{Sections}
 use Rattle.book.specs.Book.{codeText}
-use Rattle.rules_definitions.specs.Forms.{text, isGiven}
+use Rattle.rules_definitions.specs.Forms.{text}
 use Rattle.rules_definitions.specs.Seen.{Setting, Seen}
 use Rattle.rules_definitions.specs.Codes.{bookKind, codeRead, codeIn, dayIsSound, recordDay, isInForce, pairIn}
 use Rattle.rules_definitions.specs.Rules.{brokenAt}
-use Rattle.rules_forms.specs.FieldLeaves.{lowest, lowestIn, givenIn}
+use Rattle.rules_forms.specs.FieldLeaves.{lowest, givenIn}
 use Rattle.rules_forms.proofs.FieldLaws.{given-in}
 use Rattle.rules_fields.specs.declared.Day.{Day}
 use Rattle.rules_fields.specs.Look.{knownBy, forceBy}

@@ -1,6 +1,6 @@
 -- What each need of the functions on the fields of a record asks that is no II and no IE.
 -- Assumes nothing.
-use mathlib.Core.Path.{_≡_, refl, sym, ap, _∙_}
+use mathlib.Core.Path.{_≡_, refl, sym, _∙_}
 use mathlib.Core.Logic.{inl}
 use mathlib.Core.Bool.{false}
 use mathlib.Core.List.{List}
@@ -11,7 +11,6 @@ use borrow.Author.Tests.{ne-eqb}
 use Rattle.house.specs.Text.{Text}
 use Rattle.lines_fields.specs.Marks.{judgedIn}
 use Rattle.lines_fields.specs.Inside.{part}
-use Rattle.lines.specs.Records.{IV, IP, IN, IA}
 use Rattle.rules_definitions.specs.Codes.{bookKind, codeRead}
 use Rattle.rules_forms.specs.TextLeaves.{valueOf}
 use Rattle.rules_forms.specs.FieldLeaves.{lowestIn}

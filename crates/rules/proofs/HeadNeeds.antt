@@ -17,7 +17,7 @@ use Rattle.rules_definitions.specs.Seen.{Setting, Seen}
 use Rattle.rules_definitions.specs.Codes.{bookKind, codeRead, codeIn, pairKind, pairIn}
 use Rattle.rules_definitions.specs.Rules.{sameAntigen, brokenAt}
 use Rattle.rules_forms.specs.TextLeaves.{valueOf}
-use Rattle.rules_forms.specs.FieldLeaves.{lowestIn, soundIn}
+use Rattle.rules_forms.specs.FieldLeaves.{lowestIn}
 use Rattle.rules_forms.proofs.FieldLaws.{sound-in, sound-either}
 use Rattle.rules_forms.proofs.SoundLaws.{ie-2}
 use Rattle.rules_lists.proofs.ListLaws.{antigens-are}

@@ -3,20 +3,19 @@
 use mathlib.Core.Path.{_≡_, refl, sym, ap, _∙_}
 use mathlib.Core.Logic.{_⊎_, inl, inr}
 use mathlib.Core.Bool.{Bool, true, false, cond, _&&_}
-use mathlib.Core.List.{List, []}
+use mathlib.Core.List.{List}
 use Prim.Native.Nat.{ℕ, _+_, _-_, _*_, _^_, _≤_, _<_}
 use native.Mathlib.Omega.{arith}
 use borrow.Author.Needs.{needs}
-use borrow.Author.Tests.{eq-eqb, ne-eqb, eqb-true, lt-ltb, le-ltb, ltb-true, ltb-false}
+use borrow.Author.Tests.{ne-eqb, eqb-true, lt-ltb, le-ltb, ltb-true, ltb-false}
 use lib.Dec.{eqb, ltb}
 use lib.ListN.{length, getD, drop, List·getD-eq-default}
 use Rattle.house.specs.Text.{Text}
-use Rattle.lines_fields.specs.Lines.{lineOf, fieldsOf}
-use Rattle.lines_fields.specs.Marks.{marksOf, marksAt, judgedIn}
+use Rattle.lines_fields.specs.Lines.{lineOf}
+use Rattle.lines_fields.specs.Marks.{marksAt, judgedIn}
 use Rattle.lines_fields.proofs.MarkLaws.{mark-count}
-use Rattle.lines.specs.Records.{Rec, IP, recOf}
+use Rattle.lines.specs.Records.{Rec, recOf}
 use Rattle.rules_definitions.specs.Seen.{Setting, Seen}
-use Rattle.rules_definitions.specs.Rules.{brokenAt}
 use Rattle.rules_definitions.specs.Findings.{found, fieldsFindings}
 use Rattle.rules_forms.specs.FieldLeaves.{relaxedIf}
 use Rattle.rules_fields.specs.declared.Broken.{Broken}

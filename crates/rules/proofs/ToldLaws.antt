@@ -6,13 +6,12 @@ use Prim.Native.Nat.{ℕ, _≤_}
 use native.Mathlib.Omega.{arith}
 use Rattle.house.specs.Text.{Text}
 use Rattle.lines_fields.specs.Lines.{lineOf}
-use Rattle.lines_fields.specs.Marks.{marksAt, judgedIn}
+use Rattle.lines_fields.specs.Marks.{judgedIn}
 use Rattle.lines_fields.proofs.MarkLaws.{marked-judged}
-use Rattle.lines.specs.Records.{Rec, recOf}
+use Rattle.lines.specs.Records.{Rec}
 use Rattle.rules_definitions.specs.Forms.{text, isRelaxed}
 use Rattle.rules_definitions.specs.Seen.{Setting, Seen}
 use Rattle.rules_definitions.specs.Rules.{brokenAt}
-use Rattle.rules_forms.specs.FieldLeaves.{relaxedIf}
 use Rattle.rules_forms.proofs.FieldLaws.{text-is, relaxed-is}
 use Rattle.rules_fields.specs.declared.Broken.{Broken}
 use Rattle.rules.specs.declared.By.{By}

@@ -3,19 +3,19 @@
 use mathlib.Core.Path.{_≡_, refl, sym, ap, _∙_}
 use mathlib.Core.Logic.{inl, inr}
 use mathlib.Core.Bool.{Bool, true, false, cond, _&&_}
-use mathlib.Core.List.{List, []}
+use mathlib.Core.List.{List}
 use Prim.Native.Nat.{ℕ, _≤_}
 use native.Mathlib.Omega.{arith}
 use borrow.Author.Needs.{needs}
-use Rattle.house.specs.Text.{Text, any, isEmpty, pad, those}
+use Rattle.house.specs.Text.{Text, isEmpty, pad, those}
 use Rattle.lines_fields.specs.Marks.{judgedIn}
 use Rattle.lines_fields.specs.Inside.{part}
 use Rattle.lines.specs.Records.{Rec, II, isKind, recs}
 use Rattle.book.specs.Book.{codeText}
-use Rattle.rules_definitions.specs.Forms.{text, isRelaxed, isGiven}
+use Rattle.rules_definitions.specs.Forms.{text, isRelaxed}
 use Rattle.rules_definitions.specs.Seen.{Setting, Seen}
 use Rattle.rules_definitions.specs.Codes.{isSite, isMethod, bookKind, reasonRead, codeRead, codeIn, pairKind, pairIn}
-use Rattle.rules_definitions.specs.Rules.{siteWrong, methodWrong, countsSound, setsDiffer, sameLot, brokenAt}
+use Rattle.rules_definitions.specs.Rules.{countsSound, setsDiffer, sameLot, brokenAt}
 use Rattle.rules_forms.specs.TextLeaves.{valueOf}
 use Rattle.rules_forms.specs.FieldLeaves.{lowest, lowestIn}
 use Rattle.rules_forms.proofs.FieldLaws.{given-in, lacks-in}
