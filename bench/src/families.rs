@@ -9,8 +9,9 @@ use differential::check::{date, ACCEPTED, FINDINGS};
 use differential::random::Random;
 
 /// The bytes of the findings area.
-const ROOM: usize = 60_000;
+pub const ROOM: usize = 60_000;
 const SEED: u64 = 1;
+const SMALL_BOOK: usize = 2_000;
 const BIRTH: u32 = 19500101;
 
 pub struct Family {
@@ -37,6 +38,17 @@ impl Family {
             book: world.codes.bytes,
             room: ROOM,
         }
+    }
+}
+
+/// The smallest whole submission, of 30 bytes, with a small book and no ledger.
+pub fn smallest() -> Case {
+    Case {
+        today: TODAY,
+        file: Submission::new(0).finish(),
+        book: Codes::of_clinic(&mut Random::of(SEED, 0), SMALL_BOOK).bytes,
+        ledger: Vec::new(),
+        room: ROOM,
     }
 }
 
