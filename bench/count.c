@@ -1,7 +1,8 @@
 /* Checks one submission from a folder by the library, 0 or 1 times: count TODAY FOLDER ROOM CALLS
  *
- * The folder has the files `file`, `book` and `ledger`; the findings area has ROOM bytes. Prints the answer's eight numbers, all 0 without
- * a call. What runs with a call and does not without is the check: `bench/count` counts the instructions of both.
+ * The folder has the files `file`, `book` and `ledger`; the findings area has ROOM bytes, each 0xEE before the check. Prints the answer's
+ * eight numbers, all 0 without a call, and the 64-bit FNV-1a hashes of the ledger after and of the area after, in hex. What runs with a call
+ * and does not without is the check: `bench/count` counts the instructions of both.
  */
 #include <inttypes.h>
 #include <stdio.h>
@@ -35,17 +36,15 @@ static struct bytes contents(const char *folder, const char *name) {
     return read;
 }
 
-/* The numbers in ten digits each, so that printing takes as many instructions whatever they are. */
-static void print(tuulveski_answer a) {
-    uint32_t numbers[] = {a.answer, a.line, a.cause, a.findings, a.added, a.changed, a.deleted, a.not_immunized};
-    char text[sizeof numbers / sizeof *numbers * 11 + 1];
-    char *at = text;
-    for (size_t n = 0; n < sizeof numbers / sizeof *numbers; n++) {
-        for (uint32_t part = 1000000000; part > 0; part /= 10) *at++ = (char)('0' + numbers[n] / part % 10);
-        *at++ = ' ';
-    }
-    at[-1] = '\n';
-    fwrite(text, 1, (size_t)(at - text), stdout);
+static uint64_t hash(const uint8_t *at, size_t len) {
+    uint64_t h = 14695981039346656037u;
+    for (size_t i = 0; i < len; i++) h = (h ^ at[i]) * 1099511628211u;
+    return h;
+}
+
+static void print(tuulveski_answer a, uint64_t ledger, uint64_t findings) {
+    printf("%" PRIu32 " %" PRIu32 " %" PRIu32 " %" PRIu32 " %" PRIu32 " %" PRIu32 " %" PRIu32 " %" PRIu32 " %016" PRIx64 " %016" PRIx64 "\n", a.answer,
+           a.line, a.cause, a.findings, a.added, a.changed, a.deleted, a.not_immunized, ledger, findings);
 }
 
 int main(int count, char **words) {
@@ -56,11 +55,12 @@ int main(int count, char **words) {
     uint32_t today = (uint32_t)strtoul(words[1], NULL, 10);
     struct bytes file = contents(words[2], "file"), book = contents(words[2], "book"), ledger = contents(words[2], "ledger");
     size_t room = strtoul(words[3], NULL, 10);
-    uint8_t *findings = calloc(room + 1, 1);
+    uint8_t *findings = malloc(room + 1);
     if (!findings) stop("findings", "no memory");
+    memset(findings, 0xEE, room);
     tuulveski_answer answer = {0, 0, 0, 0, 0, 0, 0, 0};
     if (strcmp(words[4], "0"))
         answer = tuulveski_check(today, file.at, file.len, book.at, book.len, ledger.at, ledger.len, findings, room);
-    print(answer);
+    print(answer, hash(ledger.at, ledger.len), hash(findings, room));
     return 0;
 }

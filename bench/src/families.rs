@@ -5,7 +5,7 @@ mod clinics;
 mod edges;
 mod rereading;
 
-use crate::codes::Codes;
+use crate::codes::{self, Codes};
 use crate::submission::Submission;
 use crate::world::{Size, World, TODAY};
 use clinics::*;
@@ -18,7 +18,6 @@ use rereading::*;
 /// The bytes of the findings area.
 pub const ROOM: usize = 60_000;
 const SEED: u64 = 1;
-const SMALL_BOOK: usize = 2_000;
 const BIRTH: u32 = 19500101;
 
 pub struct Family {
@@ -48,12 +47,13 @@ impl Family {
     }
 }
 
-/// The smallest whole submission, of 30 bytes, with a small book and no ledger.
+/// The smallest whole submission, of 30 bytes, with a book of seven entries and a
+/// ledger of no slots.
 pub fn smallest() -> Case {
     Case {
         today: TODAY,
         file: Submission::new(0).finish(),
-        book: Codes::of_clinic(&mut Random::of(SEED, 0), SMALL_BOOK).bytes,
+        book: codes::book_e(),
         ledger: Vec::new(),
         room: ROOM,
     }

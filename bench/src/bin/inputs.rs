@@ -10,7 +10,7 @@
 
 use bench::families;
 use bench::world::Size;
-use differential::case::{Case, FILL};
+use differential::case::{fnv_1a, Case, Verdict, FILL};
 use differential::check;
 use std::path::Path;
 use std::process::ExitCode;
@@ -81,7 +81,11 @@ fn check(today: u32, folder: &Path, room: usize, is_called: bool) -> std::io::Re
         false => check::Answer::default(),
         true => check::check(today, &file, &book, &mut ledger, &mut findings),
     };
-    let numbers = answer.numbers().map(|number| format!("{number:010}"));
-    println!("{}", numbers.join(" "));
+    let verdict = Verdict {
+        numbers: answer.numbers(),
+        ledger: fnv_1a(&ledger),
+        area: fnv_1a(&findings),
+    };
+    println!("{}", verdict.line());
     Ok(())
 }
