@@ -14,6 +14,10 @@ use Rattle.answers.specs.declared.settle.Counts.{Counts}
 use Rattle.answers.specs.declared.settle.Settled.{Settled}
 use Rattle.answers.specs.declared.settle.Settled.the-variants.{Done, NoRoom}
 
+-- so few places that a small buffer serves
+abbrev pub fewPlaces : ℕ
+fewPlaces = 316
+
 -- the submission types, by their letters
 abbrev pub addLetter : ℕ
 addLetter = 65

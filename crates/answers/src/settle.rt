@@ -1,4 +1,5 @@
 // A file without findings is settled by the index of its blocks: they are counted, room is looked for, and the ledger is brought up to date.
+use crate::FEW_PLACES;
 use ledger::SLOT;
 use lines::MOST_PLACES;
 ghost use mathlib.Core.Path.{_≡_};
@@ -6,7 +7,7 @@ ghost use Prim.Native.Nat.{_≤_};
 ghost use lib.ListN.{length};
 ghost use Rattle.lines.specs.Sorted.{placesMost};
 ghost use Rattle.rules.specs.Firsts.{partOf};
-ghost use Rattle.answers.specs.Settled.{addLetter, addsFirst, updatedWith, updatedBy, countsOf, settledOf, settledLedger, settledIndex};
+ghost use Rattle.answers.specs.Settled.{fewPlaces, addLetter, addsFirst, updatedWith, updatedBy, countsOf, settledOf, settledLedger, settledIndex};
 
 // How many blocks add, change and delete.
 pub(crate) struct Counts {
@@ -42,7 +43,17 @@ fn update_with_deletes(file: &[u8], ledger: &mut [u8], index: &mut [u32], delete
     update_by(file, ledger, index, &deletes[from..d]);
 }
 
-// The same, in a buffer of its own.
+// The same, in a buffer of its own, for few places.
+fn lend_few_deletes(file: &[u8], ledger: &mut [u8], index: &mut [u32])
+    requires { ⌜ length (now index) ≤ fewPlaces ⌝ }
+    ensures { λ _. ⌜ now (ledger .exit) ≡ updatedBy (now (ledger .entry)) (now (file .entry)) (now (index .entry)) ⌝ }
+    ensures { λ _. ⌜ now (index .exit) ≡ addsFirst (now (file .entry)) (now (index .entry)) ⌝ }
+{
+    let mut deletes = [0u32; FEW_PLACES];
+    update_with_deletes(file, ledger, index, &mut deletes);
+}
+
+// The same, in a buffer of its own, for any index.
 fn lend_delete_buffer(file: &[u8], ledger: &mut [u8], index: &mut [u32])
     requires { ⌜ length (now index) ≤ placesMost ⌝ }
     ensures { λ _. ⌜ now (ledger .exit) ≡ updatedBy (now (ledger .entry)) (now (file .entry)) (now (index .entry)) ⌝ }
@@ -62,6 +73,8 @@ fn bring_up_to_date(file: &[u8], ledger: &mut [u8], index: &mut [u32], added: us
     if added == index.len() {
         let all = &index[..];
         ledger::update(ledger, file, all, &all[..0]);
+    } else if index.len() <= FEW_PLACES {
+        lend_few_deletes(file, ledger, index);
     } else {
         lend_delete_buffer(file, ledger, index);
     }
