@@ -113,48 +113,6 @@ module _ (s t : Text) (g : Bool) (p : g ≡ isLiveSlot t) where
 
 pub ruleset for-may-follow = (needs, follow-free, follow-not, follow-live)
 
--- in_order
-module _ (s : Text) (i : ℕ) (x : Bool) (inv : x ≡ adjacent slotFollows (drop i (slots s))) where
-  module _ (h : i + 1 < length s / 38) (t u : Text) (e : t ≡ getD (slots s) i []) (f : u ≡ getD (slots s) (i + 1) []) (r : Bool) (q : r ≡ slotFollows t u) where
-    two : drop i (slots s) ≡ t ∷ (u ∷ drop (i + 1 + 1) (slots s))
-    two = slots-here s i (omega arith) ∙ ap (λ (l : List Text). getD (slots s) i [] ∷ l) (slots-here s (i + 1) h) ∙ rw (e, f)
-
-    one : drop (i + 1) (slots s) ≡ u ∷ drop (i + 1 + 1) (slots s)
-    one = slots-here s (i + 1) h ∙ rw f
-
-    pub order-on : r ≡ true → x ≡ adjacent slotFollows (drop (i + 1) (slots s))
-    order-on z = rw (inv, two, one, ← q, z)
-
-    pub order-not : r ≡ false → false ≡ x
-    order-not z = rw (inv, two, ← q, z)
-
-  pub order-end : length s / 38 ≤ i + 1 → true ≡ x
-  order-end h = rw inv (go (drop i (slots s)) (omega (arith, length-drop i (slots s), length-slots s)))
-    where
-      go : (ts : List Text) → length ts ≤ 1 → true ≡ adjacent slotFollows ts
-      go [] k = refl
-      go (t ∷ []) k = refl
-      go (t ∷ (u ∷ ts)) k = absurd (omega arith)
-
-pub ruleset for-in-order = (needs, order-on, order-not, order-end)
-
--- count_live
-pub count-start : (s : Text) → length (those isLiveSlot (slots s)) ≡ 0 + length (those isLiveSlot (drop 0 (slots s)))
-count-start s = omega arith
-
-module _ (s : Text) (i n x : ℕ) (inv : x ≡ n + length (those isLiveSlot (drop i (slots s)))) where
-  module _ (h : i < length s / 38) (t : Text) (e : t ≡ getD (slots s) i []) (r : Bool) (q : r ≡ isLiveSlot t) where
-    pub count-live : r ≡ true → x ≡ n + 1 + length (those isLiveSlot (drop (i + 1) (slots s)))
-    count-live f = rw (inv, slots-here s i h, ← e, ← q, f) (omega arith)
-
-    pub count-free : r ≡ false → x ≡ n + length (those isLiveSlot (drop (i + 1) (slots s)))
-    count-free f = rw (inv, slots-here s i h, ← e, ← q, f)
-
-  pub count-end : length s / 38 ≤ i → n ≡ x
-  count-end h = rw (inv, slots-past s i h) (omega arith)
-
-pub ruleset for-count-live = (needs, count-start, count-live, count-free, count-end)
-
 -- is_sound_at
 module _ (s : Text) (i : ℕ) (t : Text) (e : t ≡ getD (slots s) i []) (g : Bool) (p : g ≡ slotForm t) where
   pub at-unformed : g ≡ false → false ≡ soundAt (getD (slots s) i []) (drop (i + 1) (slots s))
