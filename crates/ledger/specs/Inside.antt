@@ -4,7 +4,7 @@ use Prim.Native.Nat.{ℕ, _+_, _-_, _/_, _≤_}
 use mathlib.Core.Path.{_≡_}
 use mathlib.Core.Bool.{Bool, true, not, cond, _&&_}
 use mathlib.Core.List.{List, [], _∷_, _++_}
-use lib.ListN.{length, getD, drop, replicate}
+use lib.ListN.{length, getD, take, drop, replicate}
 use lib.Dec.{leb, ltb}
 use Rattle.house.specs.declared.Order.{Order}
 use Rattle.house.specs.declared.Order.the-variants.{More}
@@ -13,7 +13,7 @@ use Rattle.lines_places.specs.Events.{eventAt, eventsAt, ascends}
 use Rattle.ledger.specs.declared.Validity.{Validity}
 use Rattle.ledger.specs.declared.Validity.the-variants.{Sound, Malformed}
 use Rattle.ledger.specs.Ledger.{slotBytes, slots, isLiveSlot, slotForm, slotFollows, liveIn, liveSlot, eventsAfter}
-use Rattle.ledger.specs.Updates.{slotsFor, mergedUpTo}
+use Rattle.ledger.specs.Updates.{slotsFor, without, mergedUpTo}
 
 -- the first of the slots after slot t, if there is one, may follow it
 unfoldable pub followed : Text → List Text → Bool
@@ -51,6 +51,10 @@ pub record Fit (s : Text) (n : ℕ) (f : Text) (adds deletes : List ℕ) : Type 
   pub added : ascends (eventsAt f adds) ≡ true
   pub deleted : ascends (eventsAt f deletes) ≡ true
   pub room : length (eventsAfter (liveIn s) (eventsAt f adds) (eventsAt f deletes)) ≤ length s / slotBytes
+
+-- what stays of the first n slots
+abbrev pub keptOf : List Text → ℕ → Text → List ℕ → List Text
+keptOf ss n f deletes = without (slotsFor f deletes) (take n ss)
 
 -- the slots once those of the events of the lines at these places have been merged into the first n; from there on they stay
 abbrev pub mergedIn : List Text → ℕ → Text → List ℕ → List Text

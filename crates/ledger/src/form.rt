@@ -34,14 +34,7 @@ fn is_event(event: &[u8]) -> bool
 fn is_free_slot(slot: &[u8]) -> bool
     ensures { λ r. ⌜ r ≡ isFreeSlot (now (slot .entry)) ⌝ }
 {
-    let mut i = 0;
-    while i < slot.len() {
-        if slot[i] != 0 {
-            return false;
-        }
-        i += 1;
-    }
-    true
+    house::all_within(slot, 0, 0)
 }
 
 // Whether a slot has the form of its kind.

@@ -12,8 +12,8 @@ ghost use mathlib.Core.List.{_++_};
 ghost use Prim.Native.Nat.{_+_, _*_, _-_, _/_, _<_, _≤_};
 ghost use lib.ListN.{length, take, set, replicate};
 ghost use Rattle.ledger.specs.Ledger.{slotBytes, slots};
-ghost use Rattle.ledger.specs.Updates.{slotsFor, without, roomed, updated};
-ghost use Rattle.ledger.specs.Inside.{orderIf, goesLast, lastOf, mergedIn};
+ghost use Rattle.ledger.specs.Updates.{roomed, updated};
+ghost use Rattle.ledger.specs.Inside.{orderIf, goesLast, lastOf, keptOf, mergedIn};
 
 // How slot t stands to slot s; above it where there is no slot t.
 fn stands_to(there: bool, t: [u8; SLOT], s: [u8; SLOT]) -> Order
@@ -30,8 +30,8 @@ fn stands_to(there: bool, t: [u8; SLOT], s: [u8; SLOT]) -> Order
 fn compact(ledger: &mut [u8], n: usize, file: &[u8], deletes: &[u32]) -> usize
     requires { ⌜ n ≤ length (now ledger) / slotBytes ⌝ }
     ensures { λ r. ⌜ r ≤ length (now (ledger .entry)) / slotBytes ⌝ }
-    ensures { λ r. ⌜ r ≡ length (without (slotsFor (now (file .entry)) (now (deletes .entry))) (take n (slots (now (ledger .entry))))) ⌝ }
-    ensures { λ r. ⌜ take r (slots (now (ledger .exit))) ≡ without (slotsFor (now (file .entry)) (now (deletes .entry))) (take n (slots (now (ledger .entry)))) ⌝ }
+    ensures { λ r. ⌜ r ≡ length (keptOf (slots (now (ledger .entry))) n (now (file .entry)) (now (deletes .entry))) ⌝ }
+    ensures { λ r. ⌜ take r (slots (now (ledger .exit))) ≡ keptOf (slots (now (ledger .entry))) n (now (file .entry)) (now (deletes .entry)) ⌝ }
 {
     let mut w = 0;
     let mut r = 0;
@@ -62,8 +62,8 @@ fn compact(ledger: &mut [u8], n: usize, file: &[u8], deletes: &[u32]) -> usize
 fn keep_live(ledger: &mut [u8], n: usize, file: &[u8], deletes: &[u32]) -> usize
     requires { ⌜ n ≤ length (now ledger) / slotBytes ⌝ }
     ensures { λ r. ⌜ r ≤ length (now (ledger .entry)) / slotBytes ⌝ }
-    ensures { λ r. ⌜ r ≡ length (without (slotsFor (now (file .entry)) (now (deletes .entry))) (take n (slots (now (ledger .entry))))) ⌝ }
-    ensures { λ r. ⌜ take r (slots (now (ledger .exit))) ≡ without (slotsFor (now (file .entry)) (now (deletes .entry))) (take n (slots (now (ledger .entry)))) ⌝ }
+    ensures { λ r. ⌜ r ≡ length (keptOf (slots (now (ledger .entry))) n (now (file .entry)) (now (deletes .entry))) ⌝ }
+    ensures { λ r. ⌜ take r (slots (now (ledger .exit))) ≡ keptOf (slots (now (ledger .entry))) n (now (file .entry)) (now (deletes .entry)) ⌝ }
 {
     if deletes.len() == 0 {
         return n;
