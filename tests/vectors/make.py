@@ -231,7 +231,7 @@ def standing(book, kind, a, b, day):
         first, second, _ = WIDTH[k]
         if k == kind and len(a) <= first and len(b) <= second and code == pad(first, a) + pad(second, b):
             holds = (k != 1 or int(start) <= day) and day <= int(end)
-            return num(at) + yes(holds) + (b"in-force " if holds else b"out-of-force ")
+            return num(at) + (b"in-force " if holds else b"out-of-force ")
     return b"absent unknown "
 
 

@@ -20,7 +20,7 @@ use Rattle.rules_forms.proofs.FieldLaws.{text-is}
 use Rattle.rules_fields.specs.declared.Broken.{Broken}
 use Rattle.rules_fields.specs.declared.Day.{Day}
 use Rattle.rules.specs.Inside.{listed}
-use Rattle.rules_fields.specs.Look.{knownBy, forceBy}
+use Rattle.book.specs.LookUp.{knownBy, inForceBy as forceBy}
 use Rattle.rules_fields.specs.Fields.{broken, rules4and5Of}
 use Rattle.rules.specs.Fields.{laterAt, DayIs, Looks}
 use Rattle.rules.proofs.Collapse.{codes}

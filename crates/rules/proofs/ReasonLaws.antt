@@ -15,7 +15,7 @@ use Rattle.rules_definitions.specs.Codes.{reasonRead}
 use Rattle.rules_forms.specs.FieldLeaves.{lowest}
 use Rattle.rules_forms.proofs.FieldLaws.{text-is}
 use Rattle.rules_fields.specs.declared.Day.{Day}
-use Rattle.rules_fields.specs.Look.{knownBy, forceBy}
+use Rattle.book.specs.LookUp.{knownBy, inForceBy as forceBy}
 use Rattle.rules_fields.specs.Fields.{rules4and5Of, rule11By}
 use Rattle.rules.proofs.LowestLaws.{low-same}
 use Rattle.rules.proofs.CodeNeeds.{codeOf}

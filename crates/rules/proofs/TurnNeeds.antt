@@ -35,7 +35,7 @@ use Rattle.rules_fields.specs.declared.Day.{Day}
 use Rattle.rules_fields.specs.declared.Facts.{Facts}
 use Rattle.rules.specs.declared.Turn.{Turn}
 use Rattle.rules.specs.Inside.{Kept, kept, keep}
-use Rattle.rules_fields.specs.Look.{knownBy, forceBy}
+use Rattle.book.specs.LookUp.{knownBy, inForceBy as forceBy}
 use Rattle.rules.specs.Look.{settingBy}
 use Rattle.rules.specs.Walk.{partOf, span, linesBefore, Holds, BlockIs, Ready, Serves, TurnIs, headAt, dayBy, nextKnown, seenOf, seenWith, factsBy, startState, advanced, restOf}
 use Rattle.rules.specs.Fields.{Looks}

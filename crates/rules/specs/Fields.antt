@@ -17,7 +17,7 @@ use Rattle.rules_forms.specs.TextLeaves.{valueOf}
 use Rattle.rules_plain.specs.PlainFields.{bornOf}
 use Rattle.rules_fields.specs.declared.Day.{Day}
 use Rattle.rules_fields.specs.declared.Facts.{Facts}
-use Rattle.rules_fields.specs.Look.{knownBy, forceBy}
+use Rattle.book.specs.LookUp.{knownBy, inForceBy as forceBy}
 
 -- those of the rules after the first two that are broken at a field
 unfoldable pub laterAt : Setting → Seen → ℕ → List ℕ

@@ -8,6 +8,7 @@ use lib.Dec.{eqb}
 use Rattle.house.specs.Text.{Text, any, same, isEmpty, pad}
 use Rattle.lines.specs.Records.{Rec, II, IE, recOf, recs}
 use Rattle.book.specs.declared.Sections.{Sections}
+use Rattle.book.specs.LookUp.{knownBy, inForceBy as forceBy}
 use Rattle.book.specs.Book.{vaccine, antigen, reason, dosageType, withReason, withAntigen, codeText}
 use Rattle.rules_definitions.specs.Forms.{text, isGiven}
 use Rattle.rules_definitions.specs.Blocks.{adds, changes, deletes}
@@ -18,7 +19,6 @@ use Rattle.rules_lists.specs.Among.{antigenIs}
 use Rattle.rules_fields.specs.declared.Broken.{Broken}
 use Rattle.rules_fields.specs.declared.Day.{Day}
 use Rattle.rules_fields.specs.declared.Facts.{Facts}
-use Rattle.rules_fields.specs.Look.{knownBy, forceBy}
 
 abbrev pub broken : ℕ → ℕ → ℕ → Broken
 broken a b c = record { a = a; b = b; c = c }

@@ -10,8 +10,8 @@ ghost use mathlib.Core.Bool.{false, _&&_};
 ghost use mathlib.Core.List.{[]};
 ghost use Rattle.lines.specs.Records.{recOf};
 ghost use Rattle.book.specs.Book.{codeText};
+ghost use Rattle.book.specs.LookUp.{knownBy};
 ghost use Rattle.rules_definitions.specs.Forms.{isGiven};
-ghost use Rattle.rules_fields.specs.Look.{knownBy};
 ghost use Rattle.rules_fields.specs.Fields.{rules4and5By, isPairWrong, codeBy, unpairedBy, rule11By};
 
 // Whether the book has a code of a kind.

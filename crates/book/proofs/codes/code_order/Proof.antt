@@ -1,8 +1,8 @@
--- `book::search::code_order` meets its contract.
+-- `book::codes::code_order` meets its contract.
 -- Assumes nothing.
-use Rattle.book.proofs.SearchLaws.{for-code-order}
-use Rattle.book.proofs.search.code_order.Statement.{statement}
-use Rattle.book.proofs.search.code_order.Tie as tie
+use Rattle.book.proofs.CodeLaws.{for-code-order}
+use Rattle.book.proofs.codes.code_order.Statement.{statement}
+use Rattle.book.proofs.codes.code_order.Tie as tie
 
 pub code-order-spec : {M : Type 1} → statement M
 code-order-spec =
