@@ -1,4 +1,4 @@
--- What each need of `eight_are`, `blanks_from`, `is_filled`, `has_code` and `code_order` asks.
+-- What each need of `eight_are`, `few_blanks`, `blanks_from`, `is_filled`, `has_code` and `code_order` asks.
 -- Assumes nothing.
 use mathlib.Core.Path.{_≡_, refl, sym, ap, _∙_}
 use mathlib.Core.Bool.{Bool, true, false, _&&_}
@@ -10,7 +10,7 @@ use borrow.Author.Tests.{eq-eqb, ne-eqb, eqb-true}
 use borrow.Author.Needs.{needs}
 use lib.Dec.{eqb}
 use lib.ListN.{length, getD, take, drop, length-drop, take-append-drop}
-use lib.Seq.{drop-drop, take-add, length-take-le}
+use lib.Seq.{drop-drop, take-add, take-all, take-take, length-take-le}
 use Rattle.house.specs.Text.{Text, all, isBlank, number, isSame, orderOf, same, pad}
 use Rattle.house.specs.declared.Order.{Order}
 use Rattle.house.specs.declared.Order.the-variants.{Less, Same, More}
@@ -96,17 +96,51 @@ module _ (c : Text) (i : ℕ) (x : Bool) (inv : x ≡ all isBlank (drop i c)) wh
   pub blank-end : length c ≤ i → true ≡ x
   blank-end h = rw (inv, drop-past c i h)
 
-  split : x ≡ (all isBlank (take 8 (drop i c)) && all isBlank (drop (i + 8) c))
-  split = inv ∙ ap (all isBlank) (sym (take-append-drop 8 (drop i c))) ∙ all-append (take 8 (drop i c)) (drop 8 (drop i c)) ∙ rw (drop-drop 8 i c)
+pub ruleset for-few-blanks = (needs, blank-not, blank-on, blank-end)
 
-  module _ (r : Bool) (e : r ≡ all (isByte 32) (take 8 (drop i c))) where
-    pub eight-on : r ≡ true → x ≡ all isBlank (drop (i + 8) c)
-    eight-on h = split ∙ rw (← e, h)
+-- from each place up to i on there are only blanks if there are from `at` on
+abbrev pub BlankTo : Text → ℕ → ℕ → Type 0
+BlankTo c at i = (j : ℕ) → at ≤ j → j ≤ i → all isBlank (drop at c) ≡ all isBlank (drop j c)
 
-    pub eight-not : r ≡ false → false ≡ x
-    eight-not h = sym (split ∙ rw (← e, h))
+split : (u : Text) (m : ℕ) → all isBlank u ≡ (all isBlank (take m u) && all isBlank (drop m u))
+split u m = ap (all isBlank) (sym (take-append-drop m u)) ∙ all-append (take m u) (drop m u)
 
-pub ruleset for-blanks-from = (needs, blank-not, blank-on, blank-end, eight-on, eight-not)
+-- a front of blanks
+front-blank : (u : Text) (m n : ℕ) → m ≤ n → all isBlank (take n u) ≡ true → all isBlank (take m u) ≡ true
+front-blank u m n l h =
+    ap (all isBlank) (sym (take-take m n u l)) ∙ both (all isBlank (take m (take n u))) (all isBlank (drop m (take n u))) (sym (split (take n u) m) ∙ h) .0
+
+module _ (c : Text) (at : ℕ) where
+  pub blank-start : BlankTo c at at
+  blank-start j l m =
+      let e : at ≡ j = omega arith in
+      rw e
+
+  module _ (i : ℕ) (inv : BlankTo c at i) where
+    module _ (l : at ≤ i) (r : Bool) (e : r ≡ all (isByte 32) (take 8 (drop i c))) where
+      pub eight-on : r ≡ true → BlankTo c at (i + 8)
+      eight-on h j k m = go (three j i)
+        where
+          past : i ≤ j → all isBlank (drop at c) ≡ all isBlank (drop j c)
+          past g =
+              let f : all isBlank (take (j - i) (drop i c)) ≡ true = front-blank (drop i c) (j - i) 8 (omega arith) (sym e ∙ h) in
+              let d : i + (j - i) ≡ j = omega arith in
+              inv i l (omega arith) ∙ split (drop i c) (j - i) ∙ rw f (ap (all isBlank) (drop-drop (j - i) i c ∙ ap (λ (n : ℕ). drop n c) d))
+
+          go : Three j i → all isBlank (drop at c) ≡ all isBlank (drop j c)
+          go (lt g) = inv j k (omega arith)
+          go (eq g) = inv j k (omega arith)
+          go (gt g) = past (omega arith)
+
+      pub eight-not : r ≡ false → false ≡ all isBlank (drop at c)
+      eight-not h = sym (inv i l (omega arith) ∙ split (drop i c) 8 ∙ rw (← e, h))
+
+    pub eight-last : (last : ℕ) (r : Bool) → last ≡ length c - 8 → at ≤ length c → 8 ≤ length c - at → last ≤ i → r ≡ all (isByte 32) (take 8 (drop last c)) → r ≡ all isBlank (drop at c)
+    eight-last last r z g k m e =
+        let n : length (drop last c) ≤ 8 = omega (arith, length-drop last c) in
+        e ∙ ap (all isBlank) (take-all 8 (drop last c) n) ∙ sym (inv last (omega arith) m)
+
+pub ruleset for-blanks-from = (needs, blank-start, eight-on, eight-not, eight-last)
 
 -- is_filled
 blanks-are : (u : Text) → all isBlank u ≡ same u (pad (length u) [])

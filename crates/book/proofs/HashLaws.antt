@@ -30,7 +30,7 @@ module _ (t : Text) (from h i : ℕ) (inv : hashOf from t ≡ hashOf h (drop i t
     unfolding hashOf
     hash-of-blank e = inv ∙ rw (drop-here t i l, eq-eqb _ _ e)
 
-    pub hash-of-byte : (v : ℕ) → (getD t i 0 ≡ 32 → ⊥) → v ≡ getD t i 0 → hashOf from t ≡ hashOf ((h * 31 + v) % 32768) (drop (i + 1) t)
+    pub hash-of-byte : (v : ℕ) → (getD t i 0 ≡ 32 → ⊥) → v ≡ getD t i 0 → hashOf from t ≡ hashOf ((h * 37 + v) % 32768) (drop (i + 1) t)
     unfolding hashOf
     hash-of-byte v e f = inv ∙ rw (drop-here t i l, ne-eqb _ _ e, ← f)
 
@@ -53,9 +53,9 @@ pub ruleset for-last-byte = (needs, byte-past)
 hash-of-append : (h : ℕ) (x y : Text) → hashOf h (x ++ y) ≡ hashOf (hashOf h x) y
 unfolding hashOf
 hash-of-append h [] y = refl
-hash-of-append h (b ∷ x) y = go (eqb b 32) (hash-of-append h x y) (hash-of-append ((h * 31 + b) % 32768) x y)
+hash-of-append h (b ∷ x) y = go (eqb b 32) (hash-of-append h x y) (hash-of-append ((h * 37 + b) % 32768) x y)
   where
-    go : (r : Bool) → hashOf h (x ++ y) ≡ hashOf (hashOf h x) y → hashOf ((h * 31 + b) % 32768) (x ++ y) ≡ hashOf (hashOf ((h * 31 + b) % 32768) x) y → cond r (hashOf h (x ++ y)) (hashOf ((h * 31 + b) % 32768) (x ++ y)) ≡ hashOf (cond r (hashOf h x) (hashOf ((h * 31 + b) % 32768) x)) y
+    go : (r : Bool) → hashOf h (x ++ y) ≡ hashOf (hashOf h x) y → hashOf ((h * 37 + b) % 32768) (x ++ y) ≡ hashOf (hashOf ((h * 37 + b) % 32768) x) y → cond r (hashOf h (x ++ y)) (hashOf ((h * 37 + b) % 32768) (x ++ y)) ≡ hashOf (cond r (hashOf h x) (hashOf ((h * 37 + b) % 32768) x)) y
     go true e f = e
     go false e f = f
 
@@ -63,7 +63,7 @@ hash-of-filled : (h w : ℕ) (t : Text) → hashOf h (filled w t) ≡ hashOf h t
 unfolding hashOf
 hash-of-filled h zero t = refl
 hash-of-filled h (suc w) [] = hash-of-filled h w []
-hash-of-filled h (suc w) (b ∷ t) = rw (hash-of-filled h w t, hash-of-filled ((h * 31 + b) % 32768) w t)
+hash-of-filled h (suc w) (b ∷ t) = rw (hash-of-filled h w t, hash-of-filled ((h * 37 + b) % 32768) w t)
 
 hash-of-code : (k : ℕ) (a b : Text) → hashOf k (codeText k a b) ≡ hashOf (hashOf k a) b
 unfolding codeText

@@ -57,7 +57,7 @@ foundAt k from i = At (record { at = placeOf k from i })
 -- without padding
 unfoldable pub hashOf : ℕ → Text → ℕ
 hashOf h [] = h
-hashOf h (b ∷ t) = cond (eqb b 32) (hashOf h t) (hashOf ((h * 31 + b) % 32768) t)
+hashOf h (b ∷ t) = cond (eqb b 32) (hashOf h t) (hashOf ((h * 37 + b) % 32768) t)
 
 -- which entry of a kind the table from `end` on names for a code: two bytes, the lower first; 0 for a byte that is not there
 unfoldable pub entryHashed : Text → ℕ → ℕ → Text → ℕ

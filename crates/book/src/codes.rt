@@ -21,25 +21,38 @@ pub(crate) fn eight_are(text: &[u8], i: usize, b: u8) -> bool
         & (text[i + 7] == b)
 }
 
-// Whether there are only blanks from a place on.
-fn blanks_from(code: &[u8], at: usize) -> bool
+// Whether there are only blanks from a place on, byte by byte.
+fn few_blanks(code: &[u8], at: usize) -> bool
     ensures { λ r. ⌜ r ≡ all isBlank (drop at (now (code .entry))) ⌝ }
 {
     let mut i = at;
     while i < code.len() {
-        if 8 <= code.len() - i {
-            if eight_are(code, i, 32) {
-                i += 8;
-                continue;
-            }
-            return false;
-        }
         if code[i] != 32 {
             return false;
         }
         i += 1;
     }
     true
+}
+
+// The same, eight at a time. The last eight may have been asked in part.
+fn blanks_from(code: &[u8], at: usize) -> bool
+    requires { ⌜ at ≤ length (now code) ⌝ }
+    ensures { λ r. ⌜ r ≡ all isBlank (drop at (now (code .entry))) ⌝ }
+{
+    if code.len() - at < 8 {
+        return few_blanks(code, at);
+    }
+    let last = code.len() - 8;
+    let mut i = at;
+    while i < last {
+        if eight_are(code, i, 32) {
+            i += 8;
+            continue;
+        }
+        return false;
+    }
+    eight_are(code, last, 32)
 }
 
 // Whether a code is a text with blanks after it.

@@ -30,7 +30,7 @@ fn hash(from: usize, text: &[u8]) -> usize
     while i < text.len() {
         let b = text[i];
         if b != 32 {
-            h = (h * 31 + value(b)) % 32768;
+            h = (h * 37 + value(b)) % 32768;
             i += 1;
             continue;
         }

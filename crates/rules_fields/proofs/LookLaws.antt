@@ -17,11 +17,22 @@ use Rattle.book.specs.declared.Standing.{Standing}
 use Rattle.book.specs.declared.Standing.the-variants.{Unknown, OutOfForce, InForce}
 use Rattle.book.specs.Book.{codeText}
 use Rattle.book.specs.LookUp.{knownBy, inForceBy as forceBy, standingBy}
-use Rattle.book.proofs.StandingLaws.{known-at, known-not, when-unknown, when-out, when-in}
+use Rattle.book.proofs.StandingLaws.{when-unknown, when-out, when-in}
 use Rattle.rules_definitions.specs.Forms.{text, formOf, isJudged, isGiven}
 use Rattle.rules_forms.specs.FieldLeaves.{optionalIn, lowestIn}
 use Rattle.rules_forms.proofs.FieldLaws.{text-is, empty-true, empty-false}
 use Rattle.rules_fields.specs.Fields.{rules4and5Of, unpairedBy}
+
+-- is_known
+module _ (s : Text) (q : Sections) (k : ℕ) (x : Text) (d : ℕ) (r : Standing) (e : r ≡ standingBy s q k x d) where
+  pub is-unknown : r ≡ Unknown → false ≡ knownBy s q k x
+  is-unknown z = sym (when-unknown s q k x d r e z)
+
+  pub is-out : r ≡ OutOfForce → true ≡ knownBy s q k x
+  is-out z = sym (when-out s q k x d r e z .0)
+
+  pub is-in : r ≡ InForce → true ≡ knownBy s q k x
+  is-in z = sym (when-in s q k x d r e z .0)
 
 module _ (s : Text) (q : Sections) (k : ℕ) (a b : Text) (d : ℕ) (r : Standing) (e : r ≡ standingBy s q k (codeText k a b) d) (dated : Bool) where
   unknown : r ≡ Unknown → knownBy s q k (codeText k a b) ≡ false
@@ -72,7 +83,7 @@ module _ (s : Text) (q : Sections) (k : ℕ) (a b : Text) (d : ℕ) (r : Standin
       go true = refl
       go false = refl
 
-pub ruleset for-known = (needs, known-at, known-not)
+pub ruleset for-known = (needs, is-unknown, is-out, is-in)
 
 pub ruleset for-rules4-and-5-code = (needs, later-unknown, later-in, rule5-out, later-undated)
 

@@ -1,6 +1,5 @@
 // Codes of the book: whether one is known, and the rules 4, 5 and 11.
 use crate::Day;
-use book::Found;
 use book::Sections;
 use book::Standing;
 use book::VACCINE;
@@ -18,10 +17,11 @@ ghost use Rattle.rules_fields.specs.Fields.{rules4and5By, isPairWrong, c
 fn is_known(book: &[u8], q: Sections, kind: u8, code: &[u8]) -> bool
     ensures { λ r. ⌜ r ≡ knownBy (now (book .entry)) q kind (codeText kind (now (code .entry)) []) ⌝ }
 {
-    let f = book::find(book, q, kind, code, &code[..0]);
-    match f {
-        Found::At(_) => true,
-        Found::Absent => false,
+    let s = book::look_up(book, q, kind, code, &code[..0], 0);
+    match s {
+        Standing::Unknown => false,
+        Standing::InForce => true,
+        Standing::OutOfForce => true,
     }
 }
 

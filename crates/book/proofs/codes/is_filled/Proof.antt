@@ -9,7 +9,7 @@ use Rattle.book.proofs.codes.is_filled.Statement.{statement}
 use Rattle.book.proofs.codes.is_filled.Tie as tie
 
 abbrev Inv-loop : tie.InvT-loop
-Inv-loop code text i₀ i = (length text ≤ length code) × (same code (pad (length code) text) ≡ same (drop i code) (pad (length code - i) (drop i text)))
+Inv-loop code text i₀ i = (i ≤ length text) × (length text ≤ length code) × (same code (pad (length code) text) ≡ same (drop i code) (pad (length code - i) (drop i text)))
 
 abbrev μ-loop : tie.MeasureT-loop
 μ-loop code text i₀ i = length text - i
