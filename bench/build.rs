@@ -1,5 +1,5 @@
-//! Links the product's static library: that of the repository, or the one in the
-//! folder that TUULVESKI_LIB names.
+//! Says where the product's static library is: in the repository, or in the folder
+//! that TUULVESKI_LIB names. `src/product.rs` links it.
 
 fn main() {
     let repository = concat!(env!("CARGO_MANIFEST_DIR"), "/../target/staticlib");
@@ -7,5 +7,4 @@ fn main() {
     println!("cargo:rerun-if-env-changed=TUULVESKI_LIB");
     println!("cargo:rerun-if-changed={folder}/libtuulveski.a");
     println!("cargo:rustc-link-search=native={folder}");
-    println!("cargo:rustc-link-lib=static=tuulveski");
 }

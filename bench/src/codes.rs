@@ -123,6 +123,22 @@ fn some(random: &mut Random, list: &[String], most: usize) -> Vec<String> {
     picked.into_iter().cloned().collect()
 }
 
+/// Document 01's Book E: one entry of each kind but 6.
+pub fn book_e() -> Vec<u8> {
+    let (vaccine, antigen, reason) = ("TESTV", "TESTA", "50");
+    let mut entries = [
+        entry(1, &[vaccine], OPEN),
+        entry(2, &[antigen], OPEN),
+        entry(3, &[reason], OPEN),
+        entry(4, &["GSK"], OPEN),
+        entry(5, &["ML"], OPEN),
+        entry(7, &[vaccine, reason], OPEN),
+        entry(8, &[vaccine, antigen], OPEN),
+    ];
+    entries[0].start = Some(VACCINE_START);
+    entries.iter().flat_map(Entry::bytes).collect()
+}
+
 fn book(vaccines: &[Vaccine], antigens: &[String]) -> Vec<u8> {
     let mut entries: Vec<Entry> = Vec::new();
     for vaccine in vaccines {

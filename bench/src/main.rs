@@ -7,20 +7,16 @@
 //! page says the date, and NAME for the product's version.
 
 mod clock;
-mod codes;
-mod families;
 mod measure;
 mod product;
-mod submission;
 mod table;
-mod world;
 
-use families::Family;
+use bench::families::{self, Family};
+use bench::world::Size;
 use measure::Times;
 use std::process::ExitCode;
 use std::time::Duration;
 use table::Row;
-use world::Size;
 
 const USAGE: &str =
     "bench [--quick] [--only WORD] [--limit SECONDS] [--date DATE] [--product NAME]";

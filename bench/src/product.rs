@@ -14,6 +14,7 @@ struct Numbers {
     not_immunized: u32,
 }
 
+#[link(name = "tuulveski", kind = "static")]
 extern "C" {
     fn tuulveski_check(
         today: u32,

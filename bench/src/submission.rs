@@ -72,11 +72,21 @@ impl Submission {
     }
 
     pub fn patient(&mut self, uli: &str, name: &str, birth: u32) {
-        let place = self.next();
-        self.text += &format!("IP|{place}|{uli}|||||{name}|||||||||||||||||{birth}|||\n");
+        let place = self.place + 1;
+        self.patient_numbered(&place.to_string(), uli, name, birth);
+    }
+
+    pub fn patient_numbered(&mut self, number: &str, uli: &str, name: &str, birth: u32) {
+        self.next();
+        self.text += &format!("IP|{number}|{uli}|||||{name}|||||||||||||||||{birth}|||\n");
     }
 
     pub fn immunization(&mut self, dose: &Dose) {
+        self.immunization_with(dose, "");
+    }
+
+    /// The same, with this text in field 7.
+    pub fn immunization_with(&mut self, dose: &Dose, seventh: &str) {
         let place = self.next();
         let Dose {
             uli,
@@ -92,7 +102,7 @@ impl Submission {
             lot,
         } = dose;
         self.text += &format!(
-            "II|{place}|{uli}|{submission_type}||{date}||{vaccine}|{site}|{method}|{reason}|{dosage}|{dosage_type}|{manufacturer}|{lot}||||||||\n"
+            "II|{place}|{uli}|{submission_type}||{date}|{seventh}|{vaccine}|{site}|{method}|{reason}|{dosage}|{dosage_type}|{manufacturer}|{lot}||||||||\n"
         );
     }
 
@@ -113,8 +123,19 @@ impl Submission {
 
     /// The shortest lines that are a block: all that may be empty is.
     pub fn shortest_block(&mut self, uli: &str, date: u32, vaccine: char) {
-        self.place += 2;
-        self.text += &format!("II||{uli}|A||{date}||{vaccine}|||||||||||||||\nIE|||||\n");
+        self.block("", uli, date, "", vaccine.encode_utf8(&mut [0; 4]));
+    }
+
+    /// The same, with these texts in fields 2 and 7.
+    pub fn block(&mut self, number: &str, uli: &str, date: u32, seventh: &str, vaccine: &str) {
+        self.next();
+        self.text += &format!("II|{number}|{uli}|A||{date}|{seventh}|{vaccine}|||||||||||||||\n");
+        self.empty_antigen();
+    }
+
+    pub fn empty_antigen(&mut self) {
+        self.next();
+        self.text += "IE|||||\n";
     }
 
     fn next(&mut self) -> usize {

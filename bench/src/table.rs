@@ -1,8 +1,8 @@
 //! The tables of times, in Markdown.
 
-use crate::families::Family;
 use crate::measure::Times;
-use crate::world::Size;
+use bench::families::Family;
+use bench::world::Size;
 use differential::check::{Answer, FINDINGS};
 use std::time::Duration;
 

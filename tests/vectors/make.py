@@ -231,7 +231,7 @@ def standing(book, kind, a, b, day):
         first, second, _ = WIDTH[k]
         if k == kind and len(a) <= first and len(b) <= second and code == pad(first, a) + pad(second, b):
             holds = (k != 1 or int(start) <= day) and day <= int(end)
-            return num(at) + yes(holds) + (b"in-force " if holds else b"out-of-force ")
+            return num(at) + (b"in-force " if holds else b"out-of-force ")
     return b"absent unknown "
 
 
@@ -310,6 +310,22 @@ def ii(uli, day, vaccine=b"TESTV"):
     return b"II|2|" + uli + b"|A||" + day + b"||" + vaccine + b"|LA|IM|50|0.5|ML|GSK|L1||||||||"
 
 
+def updated(lent, live, adds, deletes):
+    """What an update leaves, whatever the order of its slots: a walk along those to delete, and a merge from the end."""
+    kept, deletes = [], list(deletes)
+    for slot in slots(lent)[:live]:
+        while deletes and deletes[0] < slot:
+            deletes.pop(0)
+        if not deletes or deletes[0] != slot:
+            kept.append(slot)
+    adds = list(adds) if len(kept) + len(adds) <= len(slots(lent)) else []
+    last = []
+    while adds:
+        last.append(kept.pop() if kept and not kept[-1] < adds[-1] else adds.pop())
+    left = b"".join(kept + last[::-1])
+    return left + bytes(len(lent) - len(left))
+
+
 def apart(events):
     """No two of the events are the same."""
     events = list(events)
@@ -338,10 +354,11 @@ def ledger_cases():
             out += yes(apart(event_at(file, p) for p in places)) + b"".join(num(p) for p in sorted(places, key=lambda p: event_at(file, p)))
             after = sorted([e for e in live if e not in [ev[i] for i in deletes]] + [ev[i] for i in adds])
             rising = lambda ps: all(ev[a] < ev[b] for a, b in zip(ps, ps[1:]))
-            in_order = [s[:1] for s in slots(lent)] == sorted([s[:1] for s in slots(lent)], reverse=True)
             fit = rising(adds) and rising(deletes) and len(after) <= 3
             if ok:
-                out += yes(fit) + b"[" + (ledger(*after) if fit else lent) + b"] "
+                left = updated(lent, len(live), [b"\x01" + ev[i] for i in adds], [b"\x01" + ev[i] for i in deletes])
+                assert not fit or left == ledger(*after)
+                out += b"[" + left + b"] "
             else:
                 out = None
         return part(lent) + part(asked), out

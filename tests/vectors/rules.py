@@ -364,7 +364,8 @@ VECTORS = [
     ("an area of no bytes", E.set(2, 2, "").but(area=0), "2/2/1"),
     ("a finding past line 255", patient(*[ii(day=f"2021{m:02}{d:02}") for m in range(1, 11) for d in range(1, 14)]).set(260, 15, "").but(room=130), "260/15/1"),
     ("room for each block of File N", N.but(room=3), ""),
-    ("room for one block less", N.set(2, 2, "").but(room=2), None),
+    ("room for one block less", N.but(room=2), None),
+    ("room for one block less, and a finding", N.set(2, 2, "").but(room=2), None),
 ]
 
 
@@ -379,9 +380,10 @@ ALLOWED = {(k, f, r) for k in FORM for f in FORM[k] for r in {1, 2} | PLACED.get
 
 
 def said_of(case, found, blocks, declined):
-    """What the program prints: the numbers, the findings that fit, and that the area's other bytes stay."""
+    """What the program prints: the numbers, the findings that fit, and that the area's other bytes stay; where there are more blocks than
+    room, whether the area stays, which it does if no rule but rule 15 is broken."""
     if len(blocks) > case.room:
-        return b"too-many \nkept"
+        return b"too-many \n" + (b"altered" if case.area >= 6 and any(r != 15 for _, _, r in found) else b"kept")
     kept = found[:case.area // 6]
     return b"done " + num(len(blocks)) + num(len(found)) + num(declined) + b"".join(b"\n%d %d %d " % place for place in kept) + b"\nkept"
 

@@ -2,6 +2,7 @@
 mod SettleNeeds
 mod SettledNeeds
 mod StepNeeds
+mod BufferNeeds
 -- No second answer
 mod OneSettling
 mod OneAnswer

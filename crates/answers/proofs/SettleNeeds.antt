@@ -12,7 +12,8 @@ use lib.ListN.{length, take}
 use Rattle.house.specs.Text.{Text, those, orderOf, same}
 use Rattle.house.proofs.Small.{both, clash}
 use Rattle.house.proofs.Decisions.{same-true}
-use Rattle.ledger.specs.Ledger.{slotsIn, updated}
+use Rattle.ledger.specs.Ledger.{slotsIn}
+use Rattle.ledger.specs.Updates.{updated}
 use Rattle.ledger.proofs.FoundLaws.{those-le}
 use Rattle.rules.specs.Firsts.{over, isTyped, partOf}
 use Rattle.rules.proofs.OverLaws.{over-taken, length-over, part-few}
@@ -26,10 +27,10 @@ module _ (f : Text) (ix ix′ : List ℕ) (a : ℕ) (ex : ix′ ≡ over (partOf
   pub update-adds : a ≤ length ix′
   update-adds = omega (arith, part-few f 65 ix, ap length ex, length-over (partOf f 65 ix) ix)
 
-  pub renewed : (l l′ : Text) (ps : List ℕ) → l′ ≡ updated l f (take (a - 0) ix′) ps → l′ ≡ updated l f (partOf f 65 ix) ps
-  renewed l l′ ps e =
+  pub renewed : (l l′ : Text) (live : ℕ) (ps : List ℕ) → l′ ≡ updated l live f (take (a - 0) ix′) ps → l′ ≡ updated l live f (partOf f 65 ix) ps
+  renewed l l′ live ps e =
       let p : take (a - 0) ix′ ≡ partOf f 65 ix = ap (take (a - 0)) ex ∙ over-taken (partOf f 65 ix) ix (a - 0) (omega arith) (part-few f 65 ix) in
-      e ∙ ap (λ (gs : List ℕ). updated l f gs ps) p
+      e ∙ ap (λ (gs : List ℕ). updated l live f gs ps) p
 
 pub ruleset for-update-by = (needs, update-adds, renewed)
 
@@ -38,10 +39,10 @@ module _ (f : Text) (ix out out′ : List ℕ) (d : ℕ) (eo : out′ ≡ over (
   pub update-deletes : d ≤ length out′
   update-deletes = omega (arith, part-few f 68 ix, ap length eo, length-over (partOf f 68 ix) out)
 
-  pub renewed-in : (l l′ : Text) → l′ ≡ updated l f (partOf f 65 ix) (take (d - 0) out′) → l′ ≡ updated l f (partOf f 65 ix) (partOf f 68 ix)
-  renewed-in l l′ e =
+  pub renewed-in : (l l′ : Text) (live : ℕ) → l′ ≡ updated l live f (partOf f 65 ix) (take (d - 0) out′) → l′ ≡ updated l live f (partOf f 65 ix) (partOf f 68 ix)
+  renewed-in l l′ live e =
       let p : take (d - 0) out′ ≡ partOf f 68 ix = ap (take (d - 0)) eo ∙ over-taken (partOf f 68 ix) out (d - 0) (omega arith) (omega (arith, part-few f 68 ix)) in
-      e ∙ ap (updated l f (partOf f 65 ix)) p
+      e ∙ ap (updated l live f (partOf f 65 ix)) p
 
 pub ruleset for-update-with-deletes = (needs, update-deletes, renewed-in)
 
@@ -87,8 +88,8 @@ module _ (f : Text) (ix : List ℕ) (a : ℕ) (ea : a ≡ length (partOf f 65 ix
   no-delete = no-other 68 refl
 
   -- bring_up_to_date
-  pub all-renewed : (l l′ : Text) → l′ ≡ updated l f ix [] → l′ ≡ updated l f (partOf f 65 ix) (partOf f 68 ix)
-  all-renewed l l′ e = rw (all-add, no-delete) e
+  pub all-renewed : (l l′ : Text) (live : ℕ) → l′ ≡ updated l live f ix [] → l′ ≡ updated l live f (partOf f 65 ix) (partOf f 68 ix)
+  all-renewed l l′ live e = rw (all-add, no-delete) e
 
   pub all-kept : ix ≡ over (partOf f 65 ix) ix
   all-kept = rw all-add (sym (over-self ix))
@@ -169,7 +170,7 @@ module _ (f l : Text) (live : ℕ) (ix : List ℕ) (s : Settled) (es : s ≡ set
       go true e = sym (cc)
       go false e = clash (cc)
 
-  pub done-ledger : (n : Counts) (l′ : Text) → s ≡ Done n → l′ ≡ updated l f (partOf f 65 ix) (partOf f 68 ix) → l′ ≡ settledLedger f l live ix
+  pub done-ledger : (n : Counts) (l′ : Text) → s ≡ Done n → l′ ≡ updated l live f (partOf f 65 ix) (partOf f 68 ix) → l′ ≡ settledLedger f l live ix
   unfolding settledLedger
   done-ledger n l′ z e = rw (room-if n z) e
 

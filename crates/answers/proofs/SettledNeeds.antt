@@ -16,7 +16,8 @@ use Rattle.house.specs.Members.{In}
 use Rattle.house.proofs.Facts.{is-true}
 use Rattle.house.proofs.Small.{clash}
 use Rattle.lines.specs.Events.{eventAt, eventsAt}
-use Rattle.ledger.specs.Ledger.{Event, slotsIn, liveIn, isAmong, ledgerWith, isFit, updated}
+use Rattle.ledger.specs.Ledger.{Event, slotsIn, liveIn, isAmong, ledgerWith}
+use Rattle.ledger.specs.Updates.{updated}
 use Rattle.ledger.proofs.EventLaws.{among-in, in-among}
 use Rattle.ledger.proofs.UpdateLaws.{fit-numbers, updated-fit}
 use Rattle.rules.specs.Contexts.{contextsIn}
@@ -59,15 +60,14 @@ module _ (f l : Text) (s : Settles f l) where
       (subst T (part-among f 68 e) (in-among (eventsAt f (partOf f 68 (indexOf f))) e m))))))
       ∙ length-map (partOf f 68 (indexOf f)) (eventAt f) ∙ part-count f 68
 
-  is-fit : Fit f l → isFit l f gs ds ≡ true
-  unfolding gs ds
-  is-fit r =
-      fit-numbers l f (partOf f 65 (indexOf f)) (partOf f 68 (indexOf f)) (s .ok) (part-ascends f 65 (s .adds-once)) (part-ascends f 68 (s .deletes-once))
-      (omega (arith, r, part-count f 65, all-live))
-
-  updated-is : Fit f l → updated l f gs ds ≡ ledgerAfter (lent 0 f [] l [])
+  updated-is : (n : ℕ) → n ≡ length (liveIn l) → Fit f l → updated l n f gs ds ≡ ledgerAfter (lent 0 f [] l [])
   unfolding gs ds ledgerAfter added deleted
-  updated-is r = updated-fit l f (partOf f 65 (indexOf f)) (partOf f 68 (indexOf f)) (is-fit r) ∙ ap (ledgerWith (length l)) (part-after f (liveIn l) 65 68)
+  updated-is n e r =
+      let fit =
+      fit-numbers l f (partOf f 65 (indexOf f)) (partOf f 68 (indexOf f)) (s .ok) (part-ascends f 65 (s .adds-once)) (part-ascends f 68 (s .deletes-once))
+      (omega (arith, r, part-count f 65, all-live)) in
+      ap (λ (m : ℕ). updated l m f (partOf f 65 (indexOf f)) (partOf f 68 (indexOf f))) e
+      ∙ updated-fit l (length (liveIn l)) f (partOf f 65 (indexOf f)) (partOf f 68 (indexOf f)) fit ∙ ap (ledgerWith (length l)) (part-after f (liveIn l) 65 68)
 
 -- settle_blocks
 pub front-size : (n : ℕ) (room : List ℕ) → n ≤ length room → n ≡ length (take n room)
@@ -114,7 +114,7 @@ module _ (f l l′ : Text) (live m : ℕ) (ix : List ℕ) (s : Settled) (es : s 
     ledger-is : l′ ≡ ledgerAfter (lent 0 f [] l [])
     unfolding settledLedger gs ds
     ledger-is =
-        el ∙ rw (there .0) (ap (λ (ps : List ℕ). updated l f (partOf f 65 ps) (partOf f 68 ps)) (g .index-is) ∙ updated-is f l (g .settles) fits)
+        el ∙ rw (there .0) (ap (λ (ps : List ℕ). updated l live f (partOf f 65 ps) (partOf f 68 ps)) (g .index-is) ∙ updated-is f l (g .settles) live (g .live-is) fits)
 
     pub settled-done : left (Accepted (n .added) (n .changed) (n .deleted) m) l′ [] ≡ roomed (lent 0 f [] l [])
     unfolding roomed isFull accepted added changed deleted notImmunized

@@ -3,7 +3,7 @@
 use mathlib.Core.Path.{_≡_, refl, sym, ap, _∙_, subst}
 use mathlib.Core.Bool.{Bool, true, false, cond}
 use mathlib.Core.List.{List, [], _∷_}
-use Prim.Native.Nat.{ℕ, zero, suc, _/_, _≤_, _<_}
+use Prim.Native.Nat.{ℕ, zero, suc, _*_, _/_, _≤_, _<_}
 use native.Mathlib.Omega.{arith}
 use borrow.Author.Needs.{needs}
 use borrow.Author.Tests.{lt-ltb, le-ltb, le-leb}
@@ -19,8 +19,7 @@ use Rattle.book.specs.declared.Sections.{Sections}
 use Rattle.book.specs.declared.Validity.{Validity as BookValidity}
 use Rattle.book.specs.declared.Validity.the-variants as the-book
 use Rattle.book.specs.Book.{Sound, validOf as bookValid}
-use Rattle.book.specs.LookUp.{withHashTable}
-use Rattle.book.proofs.ValidLaws.{valid-sound, valid-bad, book-small, hash-table-starts}
+use Rattle.book.proofs.ValidLaws.{valid-sound, valid-bad}
 use Rattle.ledger.specs.declared.Validity.{Validity as LedgerValidity}
 use Rattle.ledger.specs.declared.Validity.the-variants as the-ledger
 use Rattle.ledger.proofs.EventLaws.{among-in}
@@ -30,7 +29,7 @@ use Rattle.rules.specs.Findings.{Finding, findingsOf, areaAfter}
 use Rattle.rules.specs.Firsts.{firstsOf, indexOf, over, canBuild, builtIn}
 use Rattle.rules.proofs.CleanLaws.{clean-file}
 use Rattle.rules.proofs.OverLaws.{over-taken, length-over, index-size}
-use Rattle.rules.proofs.SizeLaws.{capacity}
+use Rattle.rules.proofs.SizeLaws.{blocks-size, capacity}
 use Rattle.rules.specs.declared.Judged.{Judged}
 use Rattle.rules.specs.declared.Judged.the-variants.{Done, TooMany}
 use Rattle.rules.specs.Judged.{findingsBy, judgedOf, judgedArea}
@@ -136,9 +135,12 @@ module _ (file : Text) (right : shapeOf file ≡ Right) (short : length file ≤
   few : length (firstsOf file) ≤ 96154
   few = capacity file right short
 
-  can : (k : ℕ) → k ≡ 96154 → canBuild file k ≡ true
+  within : (k : ℕ) → length file ≤ 52 * k → length (firstsOf file) ≤ k
+  within k size = omega (arith, blocks-size file right)
+
+  can : (k : ℕ) → length file ≤ 52 * k → canBuild file k ≡ true
   unfolding canBuild
-  can k size = rw (le-leb (length file) 5000000 short, le-leb (length (firstsOf file)) 96154 few, size, le-leb (length (firstsOf file)) 96154 few)
+  can k size = rw (le-leb (length file) 5000000 short, le-leb (length (firstsOf file)) 96154 few, le-leb (length (firstsOf file)) k (within k size))
 
 -- the bytes start with the book
 module _ (today : ℕ) (file bytes ledger area : Text) (q : Sections) (live : ℕ) (ready : Ready (lent today file (take (q .end) bytes) ledger area) q live) where
@@ -146,12 +148,12 @@ module _ (today : ℕ) (file bytes ledger area : Text) (q : Sections) (live : �
   unfolding findingsBy findings settingOf
   by-look-up = ap (λ (s : Setting). findingsOf s file) (setting-is today bytes q ledger live (ready .book) (ready .ledger) (ready .live-is))
 
-  judged-is : shapeOf file ≡ Right → (k : ℕ) → k ≡ 96154 → (j : Judged) → j ≡ judgedOf today file bytes q ledger live k → j ≡ Done (length (firstsOf file)) (length (findings (lent today file (take (q .end) bytes) ledger area))) (howMany (isKind IN) (recs file))
+  judged-is : shapeOf file ≡ Right → (k : ℕ) → length file ≤ 52 * k → (j : Judged) → j ≡ judgedOf today file bytes q ledger live k → j ≡ Done (length (firstsOf file)) (length (findings (lent today file (take (q .end) bytes) ledger area))) (howMany (isKind IN) (recs file))
   unfolding judgedOf
   judged-is right k size j e = e ∙ rw (can file right (ready .short) k size, by-look-up)
 
 -- judge_into
-module _ (today : ℕ) (file bytes ledger area : Text) (j : Judged) (q : Sections) (live k : ℕ) (ej : j ≡ judgedOf today file bytes q ledger live k) (size : k ≡ 96154) (right : shapeOf file ≡ Right) (ready : Ready (lent today file (take (q .end) bytes) ledger area) q live) where
+module _ (today : ℕ) (file bytes ledger area : Text) (j : Judged) (q : Sections) (live k : ℕ) (ej : j ≡ judgedOf today file bytes q ledger live k) (size : length file ≤ 52 * k) (right : shapeOf file ≡ Right) (ready : Ready (lent today file (take (q .end) bytes) ledger area) q live) where
   pub tally-is : (b n m : ℕ) → j ≡ Done b n m → tally b n m ≡ tallyOf (lent today file (take (q .end) bytes) ledger area)
   unfolding tallyOf notImmunized
   tally-is b n m z =
@@ -165,7 +167,7 @@ module _ (today : ℕ) (file bytes ledger area : Text) (j : Judged) (q : Section
   tally-never t z = clash (cc (judged-is today file bytes ledger area q live ready right k size j ej))
 
 module _ (today : ℕ) (file bytes ledger area : Text) (q : Sections) (live : ℕ) where
-  pub tally-area : (area′ : Text) (k : ℕ) → area′ ≡ judgedArea today file bytes q ledger live k area → k ≡ 96154 → shapeOf file ≡ Right → Ready (lent today file (take (q .end) bytes) ledger area) q live → area′ ≡ areaAfter area (findings (lent today file (take (q .end) bytes) ledger area))
+  pub tally-area : (area′ : Text) (k : ℕ) → area′ ≡ judgedArea today file bytes q ledger live k area → length file ≤ 52 * k → shapeOf file ≡ Right → Ready (lent today file (take (q .end) bytes) ledger area) q live → area′ ≡ areaAfter area (findings (lent today file (take (q .end) bytes) ledger area))
   unfolding judgedArea
   tally-area area′ k e size right ready = e ∙ rw (can file right (ready .short) k size, by-look-up today file bytes ledger area q live ready)
 
@@ -190,12 +192,12 @@ module _ (today : ℕ) (file book ledger area : Text) (t : Tally) (et : t ≡ ta
       go [] e = refl
       go (y ∷ ys) e = absurd (omega arith)
 
-  module _ (room room′ : List ℕ) (er : room′ ≡ over (indexOf file) room) (size : length room ≡ 96154) (right : shapeOf file ≡ Right) (q : Sections) (live : ℕ) (ready : Ready (lent today file book ledger area) q live) where
+  module _ (room room′ : List ℕ) (er : room′ ≡ over (indexOf file) room) (size : length file ≤ 52 * length room) (right : shapeOf file ≡ Right) (q : Sections) (live : ℕ) (ready : Ready (lent today file book ledger area) q live) where
     index-long : length (indexOf file) ≡ t .blocks
     index-long = index-size file ∙ sym blocks-are
 
     fits : length (indexOf file) ≤ length room
-    fits = omega (arith, index-size file, few file right (ready .short))
+    fits = omega (arith, index-size file, within file right (ready .short) (length room) size)
 
     room-part : t .blocks ≤ length room′
     room-part = omega (arith, ap length er, length-over (indexOf file) room, index-long, fits)
@@ -219,13 +221,13 @@ module _ (today : ℕ) (file book ledger area : Text) (t : Tally) (et : t ≡ ta
                 settles = settles f;
                 live-is = ready .live-is;
                 index-is = index-front;
-                few = omega (arith, ap length index-front, fits);
+                few = omega (arith, ap length index-front, index-size file, few file right (ready .short));
                 not-immunized-is = not-immunized-are;
               };
         }
 
 -- judge_into
-module _ (today : ℕ) (file bytes ledger area : Text) (j : Judged) (q : Sections) (live : ℕ) (room room′ : List ℕ) (ej : j ≡ judgedOf today file bytes q ledger live (length room)) (er : room′ ≡ builtIn file room) (size : length room ≡ 96154) (right : shapeOf file ≡ Right) (ready : Ready (lent today file (take (q .end) bytes) ledger area) q live) where
+module _ (today : ℕ) (file bytes ledger area : Text) (j : Judged) (q : Sections) (live : ℕ) (room room′ : List ℕ) (ej : j ≡ judgedOf today file bytes q ledger live (length room)) (er : room′ ≡ builtIn file room) (size : length file ≤ 52 * length room) (right : shapeOf file ≡ Right) (ready : Ready (lent today file (take (q .end) bytes) ledger area) q live) where
   pub tally-judges : (b n m : ℕ) → j ≡ Done b n m → Judges file ledger live (tally b n m) room′
   unfolding builtIn
   tally-judges b n m z =
@@ -260,16 +262,3 @@ module _ (file ledger : Text) (live : ℕ) (t : Tally) (room : List ℕ) (g : Ju
   judges-settling f = g .settling f
 
 pub ruleset for-judge-and-settle = (needs, with-findings, settled-on, judges-part, judges-settling)
-
--- judge_by_hash
-module _ (today : ℕ) (file book ledger area : Text) (q : Sections) (live : ℕ) (ready : Ready (lent today file book ledger area) q live) (room bytes : Text) (size : length room ≡ 327680) (e : bytes ≡ withHashTable book q room) where
-  starts : take (q .end) bytes ≡ book
-  starts = ap (take (q .end)) e ∙ hash-table-starts book q room (ready .book) (omega (arith, book-small book q (ready .book)))
-
-  pub hashed-ready : Ready (lent today file (take (q .end) bytes) ledger area) q live
-  hashed-ready = subst (λ (b : Text). Ready (lent today file b ledger area) q live) (sym starts) ready
-
-  pub hashed-on : (o : Outcome) → o ≡ judged (lent today file (take (q .end) bytes) ledger area) → o ≡ judged (lent today file book ledger area)
-  hashed-on o f = f ∙ ap (λ (b : Text). judged (lent today file b ledger area)) starts
-
-pub ruleset for-judge-by-hash = (needs, hashed-ready, hashed-on)

@@ -24,6 +24,14 @@ use Rattle.answers.specs.Answers.{Lent, Outcome, fileMost, findings, not
 abbrev pub bookBuffer : ℕ
 bookBuffer = 327680
 
+-- the fewest bytes that a block takes
+abbrev pub blockLeast : ℕ
+blockLeast = 52
+
+-- the longest file that is judged in small buffers
+abbrev pub shortFile : ℕ
+shortFile = 16384
+
 -- with a well-formed ledger
 unfoldable pub afterLedger : Lent → Outcome
 afterLedger x = shaped x (shapeOf (x .file))

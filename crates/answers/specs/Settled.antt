@@ -8,11 +8,16 @@ use lib.ListN.{length}
 use lib.Dec.{leb}
 use Rattle.house.specs.Text.{Text}
 use Rattle.lines.specs.Sorted.{placesMost}
-use Rattle.ledger.specs.Ledger.{slotsIn, updated}
+use Rattle.ledger.specs.Ledger.{slotsIn}
+use Rattle.ledger.specs.Updates.{updated}
 use Rattle.rules.specs.Firsts.{over, partOf}
 use Rattle.answers.specs.declared.settle.Counts.{Counts}
 use Rattle.answers.specs.declared.settle.Settled.{Settled}
 use Rattle.answers.specs.declared.settle.Settled.the-variants.{Done, NoRoom}
+
+-- so few places that a small buffer serves
+abbrev pub fewPlaces : ℕ
+fewPlaces = 316
 
 -- the submission types, by their letters
 abbrev pub addLetter : ℕ
@@ -28,13 +33,13 @@ deleteLetter = 68
 abbrev pub addsFirst : Text → List ℕ → List ℕ
 addsFirst f ps = over (partOf f addLetter ps) ps
 
--- the ledger brought up to date by the blocks at these places that add, and by those at others that delete
-abbrev pub updatedWith : Text → Text → List ℕ → List ℕ → Text
-updatedWith ledger f ps deletes = updated ledger f (partOf f addLetter ps) deletes
+-- the ledger, with n live events, brought up to date by the blocks at these places that add, and by those at others that delete
+abbrev pub updatedWith : Text → ℕ → Text → List ℕ → List ℕ → Text
+updatedWith ledger n f ps deletes = updated ledger n f (partOf f addLetter ps) deletes
 
 -- and by those of these places that delete
-abbrev pub updatedBy : Text → Text → List ℕ → Text
-updatedBy ledger f ps = updatedWith ledger f ps (partOf f deleteLetter ps)
+abbrev pub updatedBy : Text → ℕ → Text → List ℕ → Text
+updatedBy ledger n f ps = updatedWith ledger n f ps (partOf f deleteLetter ps)
 
 -- how many of the blocks at these places add, change and delete
 unfoldable pub countsOf : Text → List ℕ → Counts
@@ -50,7 +55,7 @@ settledOf f ledger n ps = cond (hasRoom f ledger n ps) (Done (countsOf f ps)) No
 
 -- the ledger after; as it was where there is no room
 unfoldable pub settledLedger : Text → Text → ℕ → List ℕ → Text
-settledLedger f ledger n ps = cond (hasRoom f ledger n ps) (updatedBy ledger f ps) ledger
+settledLedger f ledger n ps = cond (hasRoom f ledger n ps) (updatedBy ledger n f ps) ledger
 
 -- the index after: the places of those that add at its front; as it was where there is no room
 unfoldable pub settledIndex : Text → Text → ℕ → List ℕ → List ℕ

@@ -4,6 +4,9 @@ mod steps;
 
 pub use steps::check;
 
+// Room for the places of a short file's blocks.
+pub(crate) const FEW_PLACES: usize = 316;
+
 // The answers, by document 01's names; `numbersOf` in specs/ gives the paper's numbers of each.
 pub enum Answer {
     Accepted {

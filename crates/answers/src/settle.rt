@@ -1,4 +1,5 @@
 // A file without findings is settled by the index of its blocks: they are counted, room is looked for, and the ledger is brought up to date.
+use crate::FEW_PLACES;
 use ledger::SLOT;
 use lines::MOST_PLACES;
 ghost use mathlib.Core.Path.{_≡_};
@@ -6,7 +7,7 @@ ghost use Prim.Native.Nat.{_≤_};
 ghost use lib.ListN.{length};
 ghost use Rattle.lines.specs.Sorted.{placesMost};
 ghost use Rattle.rules.specs.Firsts.{partOf};
-ghost use Rattle.answers.specs.Settled.{addLetter, addsFirst, updatedWith, updatedBy, countsOf, settledOf, settledLedger, settledIndex};
+ghost use Rattle.answers.specs.Settled.{fewPlaces, addLetter, addsFirst, updatedWith, updatedBy, countsOf, settledOf, settledLedger, settledIndex};
 
 // How many blocks add, change and delete.
 pub(crate) struct Counts {
@@ -22,48 +23,66 @@ pub(crate) enum Settled {
 }
 
 // Brings the ledger up to date by the index of the blocks and the places of those deleted. The index keeps the places of those added.
-fn update_by(file: &[u8], ledger: &mut [u8], index: &mut [u32], deletes: &[u32])
-    ensures { λ _. ⌜ now (ledger .exit) ≡ updatedWith (now (ledger .entry)) (now (file .entry)) (now (index .entry)) (now (deletes .entry)) ⌝ }
+fn update_by(file: &[u8], ledger: &mut [u8], live: usize, index: &mut [u32], deletes: &[u32])
+    ensures { λ _. ⌜ now (ledger .exit) ≡ updatedWith (now (ledger .entry)) live (now (file .entry)) (now (index .entry)) (now (deletes .entry)) ⌝ }
     ensures { λ _. ⌜ now (index .exit) ≡ addsFirst (now (file .entry)) (now (index .entry)) ⌝ }
 {
     let from = 0;
     let a = rules::keep(file, index, b'A');
-    ledger::update(ledger, file, &index[from..a], deletes);
+    ledger::update(ledger, live, file, &index[from..a], deletes);
 }
 
 // The same, in a buffer for the places of those deleted.
-fn update_with_deletes(file: &[u8], ledger: &mut [u8], index: &mut [u32], deletes: &mut [u32])
+fn update_with_deletes(
+    file: &[u8],
+    ledger: &mut [u8],
+    live: usize,
+    index: &mut [u32],
+    deletes: &mut [u32],
+)
     requires { ⌜ length (now index) ≤ length (now deletes) ⌝ }
-    ensures { λ _. ⌜ now (ledger .exit) ≡ updatedBy (now (ledger .entry)) (now (file .entry)) (now (index .entry)) ⌝ }
+    ensures { λ _. ⌜ now (ledger .exit) ≡ updatedBy (now (ledger .entry)) live (now (file .entry)) (now (index .entry)) ⌝ }
     ensures { λ _. ⌜ now (index .exit) ≡ addsFirst (now (file .entry)) (now (index .entry)) ⌝ }
 {
     let from = 0;
     let d = rules::part_of(file, index, b'D', deletes);
-    update_by(file, ledger, index, &deletes[from..d]);
+    update_by(file, ledger, live, index, &deletes[from..d]);
 }
 
-// The same, in a buffer of its own.
-fn lend_delete_buffer(file: &[u8], ledger: &mut [u8], index: &mut [u32])
+// The same, in a buffer of its own, for few places.
+fn lend_few_deletes(file: &[u8], ledger: &mut [u8], live: usize, index: &mut [u32])
+    requires { ⌜ length (now index) ≤ fewPlaces ⌝ }
+    ensures { λ _. ⌜ now (ledger .exit) ≡ updatedBy (now (ledger .entry)) live (now (file .entry)) (now (index .entry)) ⌝ }
+    ensures { λ _. ⌜ now (index .exit) ≡ addsFirst (now (file .entry)) (now (index .entry)) ⌝ }
+{
+    let mut deletes = [0u32; FEW_PLACES];
+    update_with_deletes(file, ledger, live, index, &mut deletes);
+}
+
+// The same, in a buffer of its own, for any index.
+fn lend_delete_buffer(file: &[u8], ledger: &mut [u8], live: usize, index: &mut [u32])
     requires { ⌜ length (now index) ≤ placesMost ⌝ }
-    ensures { λ _. ⌜ now (ledger .exit) ≡ updatedBy (now (ledger .entry)) (now (file .entry)) (now (index .entry)) ⌝ }
+    ensures { λ _. ⌜ now (ledger .exit) ≡ updatedBy (now (ledger .entry)) live (now (file .entry)) (now (index .entry)) ⌝ }
     ensures { λ _. ⌜ now (index .exit) ≡ addsFirst (now (file .entry)) (now (index .entry)) ⌝ }
 {
     let mut deletes = [0u32; MOST_PLACES];
-    update_with_deletes(file, ledger, index, &mut deletes);
+    update_with_deletes(file, ledger, live, index, &mut deletes);
 }
 
 // Brings the ledger up to date by the index of the blocks, so many of which add. Where all do, their places are the index as it is.
-fn bring_up_to_date(file: &[u8], ledger: &mut [u8], index: &mut [u32], added: usize)
+fn bring_up_to_date(file: &[u8], ledger: &mut [u8], live: usize, index: &mut [u32], added: usize)
     requires { ⌜ added ≡ length (partOf (now file) addLetter (now index)) ⌝ }
     requires { ⌜ length (now index) ≤ placesMost ⌝ }
-    ensures { λ _. ⌜ now (ledger .exit) ≡ updatedBy (now (ledger .entry)) (now (file .entry)) (now (index .entry)) ⌝ }
+    ensures { λ _. ⌜ now (ledger .exit) ≡ updatedBy (now (ledger .entry)) live (now (file .entry)) (now (index .entry)) ⌝ }
     ensures { λ _. ⌜ now (index .exit) ≡ addsFirst (now (file .entry)) (now (index .entry)) ⌝ }
 {
     if added == index.len() {
         let all = &index[..];
-        ledger::update(ledger, file, all, &all[..0]);
+        ledger::update(ledger, live, file, all, &all[..0]);
+    } else if index.len() <= FEW_PLACES {
+        lend_few_deletes(file, ledger, live, index);
     } else {
-        lend_delete_buffer(file, ledger, index);
+        lend_delete_buffer(file, ledger, live, index);
     }
 }
 
@@ -122,7 +141,7 @@ pub(crate) fn settle(file: &[u8], ledger: &mut [u8], live: usize, index: &mut [u
     match s {
         Settled::Done(n) => {
             let added = n.added;
-            bring_up_to_date(file, ledger, index, added);
+            bring_up_to_date(file, ledger, live, index, added);
             Settled::Done(n)
         }
         Settled::NoRoom => Settled::NoRoom,

@@ -1,5 +1,6 @@
 // The steps of the check, in the order of document 01's answers: each function answers from one of them on.
 use crate::Answer;
+use crate::FEW_PLACES;
 use crate::settle::Settled;
 use book::Sections;
 use dates::Date;
@@ -9,18 +10,20 @@ use rules::Judged;
 use rules::MOST_BYTES;
 ghost use mathlib.Core.Path.{_≡_};
 ghost use mathlib.Core.List.{[]};
-ghost use Prim.Native.Nat.{_≤_};
+ghost use Prim.Native.Nat.{_*_, _≤_};
 ghost use lib.ListN.{length, take};
 ghost use Rattle.lines.specs.declared.Shape.the-variants.{Right};
-ghost use Rattle.lines.specs.Sorted.{placesMost};
 ghost use Rattle.lines.specs.Shape.{shapeOf};
 ghost use Rattle.book.specs.Book.{Sound};
 ghost use Rattle.rules.specs.Findings.{areaAfter};
 ghost use Rattle.answers.specs.Answers.{fileMost, lent, left, findings, roomed, judged, Gives};
-ghost use Rattle.answers.specs.Inside.{bookBuffer, afterBook, afterLedger, tallyOf, Ready, Settling, Judges};
+ghost use Rattle.answers.specs.Inside.{bookBuffer, blockLeast, shortFile, afterBook, afterLedger, tallyOf, Ready, Settling, Judges};
 
 // Room for a book, which has 262,144 bytes at most, and its hash table, which has 65,536.
 const BOOK_BUFFER: usize = 327680;
+
+// A file so short that neither a hash table nor a large buffer is worth its clearing.
+const SHORT_FILE: usize = 16384;
 
 // How many blocks, findings and IN records there are.
 struct Tally {
@@ -29,7 +32,8 @@ struct Tally {
     not_immunized: usize,
 }
 
-// Judges a file of right shape, by a book with its hash table: the findings go to their area, and the index of the blocks to the front of a buffer.
+// Judges a file of right shape, by a book and what follows it, be that its hash table or nothing: the findings go to their area, and the index
+// of the blocks to the front of a buffer.
 fn judge_into(
     today: u32,
     file: &[u8],
@@ -42,7 +46,7 @@ fn judge_into(
 ) -> Tally
     requires { ⌜ Ready (lent today (now file) (take (q .end) (now hashed)) (now ledger) (now area)) q live ⌝ }
     requires { ⌜ shapeOf (now file) ≡ Right ⌝ }
-    requires { ⌜ length (now buffer) ≡ placesMost ⌝ }
+    requires { ⌜ length (now file) ≤ blockLeast * length (now buffer) ⌝ }
     ensures { λ r. ⌜ r ≡ tallyOf (lent today (now (file .entry)) (take (q .end) (now (hashed .entry))) (now (ledger .entry)) (now (area .entry))) ⌝ }
     ensures { λ _. ⌜ now (area .exit) ≡ areaAfter (now (area .entry))
         (findings (lent today (now (file .entry)) (take (q .end) (now (hashed .entry))) (now (ledger .entry)) (now (area .entry)))) ⌝ }
@@ -92,7 +96,7 @@ fn settle_blocks(
     }
 }
 
-// From FINDINGS on, by a book with its hash table, in a buffer for the index.
+// From FINDINGS on, by a book and what follows it, in a buffer for the index.
 fn judge_and_settle(
     today: u32,
     file: &[u8],
@@ -105,7 +109,7 @@ fn judge_and_settle(
 ) -> Answer
     requires { ⌜ Ready (lent today (now file) (take (q .end) (now hashed)) (now ledger) (now area)) q live ⌝ }
     requires { ⌜ shapeOf (now file) ≡ Right ⌝ }
-    requires { ⌜ length (now buffer) ≡ placesMost ⌝ }
+    requires { ⌜ length (now file) ≤ blockLeast * length (now buffer) ⌝ }
     ensures { λ r. ⌜ left r (now (ledger .exit)) (now (area .exit))
         ≡ judged (lent today (now (file .entry)) (take (q .end) (now (hashed .entry))) (now (ledger .entry)) (now (area .entry))) ⌝ }
 {
@@ -158,7 +162,7 @@ fn judge_by_hash(
     lend_index_buffer(today, file, buffer, q, ledger, live, area)
 }
 
-// From FINDINGS on.
+// From FINDINGS on, of any file: by a copy of the book with its hash table.
 fn lend_book_buffer(
     today: u32,
     file: &[u8],
@@ -177,6 +181,48 @@ fn lend_book_buffer(
     judge_by_hash(today, file, book, q, ledger, live, area, &mut buffer)
 }
 
+// From FINDINGS on, of a short file: by the book as it is, without a hash table.
+fn judge_short(
+    today: u32,
+    file: &[u8],
+    book: &[u8],
+    q: Sections,
+    ledger: &mut [u8],
+    live: usize,
+    area: &mut [u8],
+) -> Answer
+    requires { ⌜ Ready (lent today (now file) (now book) (now ledger) (now area)) q live ⌝ }
+    requires { ⌜ shapeOf (now file) ≡ Right ⌝ }
+    requires { ⌜ length (now file) ≤ shortFile ⌝ }
+    ensures { λ r. ⌜ left r (now (ledger .exit)) (now (area .exit))
+        ≡ judged (lent today (now (file .entry)) (now (book .entry)) (now (ledger .entry)) (now (area .entry))) ⌝ }
+{
+    let mut buffer = [0u32; FEW_PLACES];
+    judge_and_settle(today, file, book, q, ledger, live, area, &mut buffer)
+}
+
+// From FINDINGS on.
+fn from_findings(
+    today: u32,
+    file: &[u8],
+    book: &[u8],
+    q: Sections,
+    ledger: &mut [u8],
+    live: usize,
+    area: &mut [u8],
+) -> Answer
+    requires { ⌜ Ready (lent today (now file) (now book) (now ledger) (now area)) q live ⌝ }
+    requires { ⌜ shapeOf (now file) ≡ Right ⌝ }
+    ensures { λ r. ⌜ left r (now (ledger .exit)) (now (area .exit))
+        ≡ judged (lent today (now (file .entry)) (now (book .entry)) (now (ledger .entry)) (now (area .entry))) ⌝ }
+{
+    if file.len() <= SHORT_FILE {
+        judge_short(today, file, book, q, ledger, live, area)
+    } else {
+        lend_book_buffer(today, file, book, q, ledger, live, area)
+    }
+}
+
 // From SHAPE on.
 fn from_shape(
     today: u32,
@@ -193,7 +239,7 @@ fn from_shape(
 {
     let s = lines::shape_of(file);
     match s {
-        Shape::Right => lend_book_buffer(today, file, book, q, ledger, live, area),
+        Shape::Right => from_findings(today, file, book, q, ledger, live, area),
         Shape::Fault { line, cause } => Answer::Shape { line, cause },
     }
 }

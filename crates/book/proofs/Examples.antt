@@ -10,8 +10,8 @@ use Rattle.dates.specs.Dates.{isLeap, daysIn, isDay, isDate, isEnd}
 use Rattle.house.specs.Search.{binarySearch}
 use Rattle.book.specs.declared.Standing.{Standing}
 use Rattle.book.specs.declared.Standing.the-variants.{Unknown, OutOfForce, InForce}
-use Rattle.book.specs.Book.{firstWidth, secondWidth, codeWidth, startWidth, bodyWidth, entryOf, entriesAfter, entries, codeOf, datesOf, startOf, endOf, firstForm, secondForm, codeForm, startForm, datesForm, bodyForm, entryForm, above, bookOk, startedBy, inForce, codeText, isEntry, listed, listedOn, standingOf, bytesBefore, sectionsOf, isWhole}
-use Rattle.book.specs.LookUp.{sectionStart, countIn, placeOf, orderAt, foundAt, fits, hashOf, entryHashed, foundIf, hashedIn, searchedIn, soughtIn, foundIn, inForceAt, standingIn}
+use Rattle.book.specs.Book.{firstWidth, secondWidth, codeWidth, startWidth, bodyWidth, entryOf, entriesAfter, entries, codeOf, datesOf, startOf, endOf, firstForm, secondForm, codeForm, startForm, datesForm, bodyForm, entryForm, above, bookOk, startedBy, inForce, codeText, isEntry, listed, listedOn, standingOf, bytesBefore, sectionsOf}
+use Rattle.book.specs.LookUp.{sectionStart, countFrom, countIn, placeOf, codeAt, orderAt, foundAt, hashOf, entryHashed, namedIn, searchedIn, soughtIn, foundIn, knownBy, inForceBy, standingBy}
 
 -- the entries of book E
 abbrev testv : Text
@@ -52,7 +52,7 @@ abbrev says : Text → ℕ → Text → Text → ℕ → Standing → Bool
 says s k a b d t = eqb (numbered (standingOf (entries s) k (codeText k a b) d)) (numbered t)
 
 abbrev finds : Text → ℕ → Text → Text → ℕ → Standing → Bool
-finds s k a b d t = eqb (numbered (standingIn s (sectionsOf s) k a b d)) (numbered t)
+finds s k a b d t = eqb (numbered (standingBy s (sectionsOf s) k (codeText k a b) d)) (numbered t)
 
 abbrev wellFormed : List Text
 wellFormed = [] ∷ testv ∷ bookE ∷ ending ∷ (testv ++ (1 ∷ bytes "TESTVB              2000010199999999")) ∷ []
@@ -105,5 +105,5 @@ cases =
     ∷ []
 
 pub book-e : all (λ (b : Bool). b) cases ≡ true
-unfolding orderOf below same isDigit isGraphic digits number graphicLen isPadded isLeap daysIn isDay isDate isEnd binarySearch firstWidth secondWidth codeWidth startWidth bodyWidth entryOf entriesAfter entries codeOf datesOf startOf endOf firstForm secondForm codeForm startForm datesForm bodyForm entryForm above bookOk startedBy inForce codeText isEntry listed listedOn standingOf bytesBefore sectionsOf sectionStart countIn placeOf orderAt foundAt fits hashOf entryHashed foundIf hashedIn searchedIn soughtIn foundIn inForceAt standingIn isWhole
+unfolding orderOf below same isDigit isGraphic digits number graphicLen isPadded isLeap daysIn isDay isDate isEnd binarySearch firstWidth secondWidth codeWidth startWidth bodyWidth entryOf entriesAfter entries codeOf datesOf startOf endOf firstForm secondForm codeForm startForm datesForm bodyForm entryForm above bookOk startedBy inForce codeText isEntry listed listedOn standingOf bytesBefore sectionsOf sectionStart countFrom countIn placeOf codeAt orderAt foundAt hashOf entryHashed namedIn searchedIn soughtIn foundIn knownBy inForceBy standingBy
 book-e = refl

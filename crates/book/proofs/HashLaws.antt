@@ -1,4 +1,4 @@
--- What each need of the hash table asks: `hash`, `byte_at`, `hashed`, `put_byte`, `hash_entry`, `hash_entries`, `hash_kinds`, `copy_book` and
+-- What each need of the hash table asks: `hash`, `last_byte`, `hashed`, `put_byte`, `hash_entry`, `hash_entries`, `hash_kinds`, `copy_book` and
 -- `hash_book`.
 -- Assumes nothing.
 use mathlib.Core.Path.{_≡_, refl, sym, ap, _∙_}
@@ -17,9 +17,11 @@ use lib.Seq.{take-append-seam, drop-append-seam, take-all}
 use Rattle.house.specs.Text.{Text}
 use Rattle.house.proofs.Suffix.{drop-here, drop-past, rest, set-past, copy-more}
 use Rattle.book.specs.declared.Sections.{Sections}
+use Rattle.book.specs.declared.Layout.{Layout}
 use Rattle.book.specs.Book.{firstWidth, secondWidth, codeWidth, bodyWidth, filled, codeText}
-use Rattle.book.specs.LookUp.{sectionStart, countIn, placeOf, hashOf, entryHashed, hashEntry, hashEntries, hashKinds, withHashTable}
-use Rattle.book.proofs.SearchLaws.{count-from, probe-mul, probe-add, probe-body, probe-code}
+use Rattle.book.specs.LookUp.{sectionStart, countFrom, countIn, placeOf, codeAt, hashOf, entryHashed, hashEntry, hashEntries, hashKinds, withHashTable}
+use Rattle.book.specs.Inside.{WidthsAre, LayoutIs}
+use Rattle.book.proofs.SearchLaws.{probe-mul, probe-add, probe-body, probe-code}
 
 -- hashOf
 module _ (t : Text) (from h i : ℕ) (inv : hashOf from t ≡ hashOf h (drop i t)) where
@@ -28,7 +30,7 @@ module _ (t : Text) (from h i : ℕ) (inv : hashOf from t ≡ hashOf h (drop i t
     unfolding hashOf
     hash-of-blank e = inv ∙ rw (drop-here t i l, eq-eqb _ _ e)
 
-    pub hash-of-byte : (v : ℕ) → (getD t i 0 ≡ 32 → ⊥) → v ≡ getD t i 0 → hashOf from t ≡ hashOf ((h * 31 + v) % 32768) (drop (i + 1) t)
+    pub hash-of-byte : (v : ℕ) → (getD t i 0 ≡ 32 → ⊥) → v ≡ getD t i 0 → hashOf from t ≡ hashOf ((h * 37 + v) % 32768) (drop (i + 1) t)
     unfolding hashOf
     hash-of-byte v e f = inv ∙ rw (drop-here t i l, ne-eqb _ _ e, ← f)
 
@@ -41,19 +43,19 @@ hash-of-low n = mod-lt n (omega arith)
 
 pub ruleset for-hash = (needs, hash-of-blank, hash-of-byte, hash-of-end, hash-of-low)
 
--- byte_at
+-- last_byte
 pub byte-past : (t : Text) (at : ℕ) → length t ≤ at → 0 ≡ getD t at 0
 byte-past t at l = sym (List·getD-eq-default t 0 l)
 
-pub ruleset for-byte-at = (needs, byte-past)
+pub ruleset for-last-byte = (needs, byte-past)
 
 -- hashed: padding is not hashed
 hash-of-append : (h : ℕ) (x y : Text) → hashOf h (x ++ y) ≡ hashOf (hashOf h x) y
 unfolding hashOf
 hash-of-append h [] y = refl
-hash-of-append h (b ∷ x) y = go (eqb b 32) (hash-of-append h x y) (hash-of-append ((h * 31 + b) % 32768) x y)
+hash-of-append h (b ∷ x) y = go (eqb b 32) (hash-of-append h x y) (hash-of-append ((h * 37 + b) % 32768) x y)
   where
-    go : (r : Bool) → hashOf h (x ++ y) ≡ hashOf (hashOf h x) y → hashOf ((h * 31 + b) % 32768) (x ++ y) ≡ hashOf (hashOf ((h * 31 + b) % 32768) x) y → cond r (hashOf h (x ++ y)) (hashOf ((h * 31 + b) % 32768) (x ++ y)) ≡ hashOf (cond r (hashOf h x) (hashOf ((h * 31 + b) % 32768) x)) y
+    go : (r : Bool) → hashOf h (x ++ y) ≡ hashOf (hashOf h x) y → hashOf ((h * 37 + b) % 32768) (x ++ y) ≡ hashOf (hashOf ((h * 37 + b) % 32768) x) y → cond r (hashOf h (x ++ y)) (hashOf ((h * 37 + b) % 32768) (x ++ y)) ≡ hashOf (cond r (hashOf h x) (hashOf ((h * 37 + b) % 32768) x)) y
     go true e f = e
     go false e f = f
 
@@ -61,23 +63,34 @@ hash-of-filled : (h w : ℕ) (t : Text) → hashOf h (filled w t) ≡ hashOf h t
 unfolding hashOf
 hash-of-filled h zero t = refl
 hash-of-filled h (suc w) [] = hash-of-filled h w []
-hash-of-filled h (suc w) (b ∷ t) = rw (hash-of-filled h w t, hash-of-filled ((h * 31 + b) % 32768) w t)
+hash-of-filled h (suc w) (b ∷ t) = rw (hash-of-filled h w t, hash-of-filled ((h * 37 + b) % 32768) w t)
 
 hash-of-code : (k : ℕ) (a b : Text) → hashOf k (codeText k a b) ≡ hashOf (hashOf k a) b
 unfolding codeText
 hash-of-code k a b = hash-of-append k (filled (firstWidth k) a) (filled (secondWidth k) b) ∙ rw (hash-of-filled k (firstWidth k) a, hash-of-filled (hashOf k a) (secondWidth k) b)
 
-module _ (s : Text) (q : Sections) (k : ℕ) (a b : Text) where
-  pub entry-hashed-none : length s < q .end → 0 ≡ entryHashed s q k (codeText k a b)
+module _ (s : Text) (end k : ℕ) (a b : Text) where
+  pub entry-hashed-none : length s < end → 0 ≡ entryHashed s end k (codeText k a b)
   unfolding entryHashed
-  entry-hashed-none l = rw (drop-past s (q .end) (omega arith))
+  entry-hashed-none l = rw (drop-past s end (omega arith))
 
-  pub entry-hashed-is : (v f m : ℕ) → v ≡ k → f ≡ hashOf v a → m ≡ hashOf f b → (x y : ℕ) → x ≡ getD (take (length s - q .end) (drop (q .end) s)) (m * 2) 0 → y ≡ getD (take (length s - q .end) (drop (q .end) s)) (m * 2 + 1) 0
-      → x + y * 256 ≡ entryHashed s q k (codeText k a b)
-  unfolding entryHashed
-  entry-hashed-is v f m ev ef em x y ex ey = rw (hash-of-code k a b, ← ev, ← ef, ← em, ← rest s (q .end), ← ex, ← ey)
+  module _ (v f m : ℕ) (ev : v ≡ k) (ef : f ≡ hashOf v a) (em : m ≡ hashOf f b) where
+    is-hash : entryHashed s end k (codeText k a b) ≡ getD (drop end s) (m * 2) 0 + getD (drop end s) (m * 2 + 1) 0 * 256
+    unfolding entryHashed
+    is-hash = rw (hash-of-code k a b, ← ev, ← ef, ← em)
 
-pub ruleset for-hashed = (needs, entry-hashed-none, entry-hashed-is)
+    pub entry-hashed-past : (x : ℕ) → length (take (length s - end) (drop end s)) ≤ m * 2 + 1 → x ≡ getD (take (length s - end) (drop end s)) (m * 2) 0
+        → x ≡ entryHashed s end k (codeText k a b)
+    entry-hashed-past x l ex =
+        let z : 0 ≡ getD (drop end s) (m * 2 + 1) 0 = byte-past (drop end s) (m * 2 + 1) (omega (arith, ap length (rest s end))) in
+        let y : x ≡ getD (drop end s) (m * 2) 0 = ex ∙ ap (λ (t : Text). getD t (m * 2) 0) (rest s end) in
+        sym (is-hash ∙ omega arith)
+
+    pub entry-hashed-is : (x y : ℕ) → x ≡ getD (take (length s - end) (drop end s)) (m * 2) 0 → y ≡ getD (take (length s - end) (drop end s)) (m * 2 + 1) 0
+        → x + y * 256 ≡ entryHashed s end k (codeText k a b)
+    entry-hashed-is x y ex ey = rw (is-hash, ← rest s end, ← ex, ← ey)
+
+pub ruleset for-hashed = (needs, entry-hashed-none, entry-hashed-past, entry-hashed-is)
 
 -- put_byte
 pub ruleset for-put-byte = (needs, set-past)
@@ -90,16 +103,20 @@ module _ (s : Text) (from n i w p q : ℕ) (h : i < n) (g : n * w ≤ length s -
   pub row-second : from + i * w + 1 + p + q < 18446744073709551616
   row-second = omega (arith, probe-code s from n i w p q h g v)
 
-pub row-noted : (s : Text) (k from i w p q : ℕ) (t u v : Text) (j m : ℕ) → w ≡ bodyWidth k + 1 → p ≡ firstWidth k → q ≡ secondWidth k
-    → j ≡ k → m ≡ hashOf j (take (from + i * w + 1 + p + q - (from + i * w + 1)) (drop (from + i * w + 1) s))
-    → u ≡ set t (m * 2) (i % 256) → v ≡ set u (m * 2 + 1) (i / 256 % 256) → v ≡ hashEntry s k from i t
-unfolding hashEntry placeOf codeWidth
-row-noted s k from i w p q t u v j m ew ep eq ej em eu ev =
-    let n : from + i * w + 1 + p + q - (from + i * w + 1) ≡ p + q = omega arith in
-    let e : m ≡ hashOf k (take (firstWidth k + secondWidth k) (drop (from + i * (bodyWidth k + 1) + 1) s)) = em ∙ rw (ej, n, ew, ep, eq) in
-    ev ∙ rw (eu, e)
+module _ (k : ℕ) (w : Layout) (h : WidthsAre k w) where
+  pub row-codes : w .first + w .second < w .entry
+  row-codes = h .codes-in
 
-pub ruleset for-hash-entry = (needs, probe-mul, probe-add, probe-body, probe-code, row-first, row-second, row-noted)
+  pub row-noted : (s : Text) (i : ℕ) (t u v : Text) (j m : ℕ) → j ≡ k
+      → m ≡ hashOf j (take (w .from + i * w .entry + 1 + w .first + w .second - (w .from + i * w .entry + 1)) (drop (w .from + i * w .entry + 1) s))
+      → u ≡ set t (m * 2) (i % 256) → v ≡ set u (m * 2 + 1) (i / 256 % 256) → v ≡ hashEntry s k (w .from) i t
+  unfolding hashEntry codeAt placeOf codeWidth
+  row-noted s i t u v j m ej em eu ev =
+      let n : w .from + i * w .entry + 1 + w .first + w .second - (w .from + i * w .entry + 1) ≡ w .first + w .second = omega arith in
+      let e : m ≡ hashOf k (take (firstWidth k + secondWidth k) (drop (w .from + i * (bodyWidth k + 1) + 1) s)) = em ∙ rw (ej, n, h .entry-is, h .first-is, h .second-is) in
+      ev ∙ rw (eu, e)
+
+pub ruleset for-hash-entry = (needs, probe-mul, probe-add, probe-body, probe-code, row-codes, row-first, row-second, row-noted)
 
 -- hash_entries
 module _ (s : Text) (k from : ℕ) (t₀ : Text) where
@@ -111,10 +128,15 @@ module _ (s : Text) (k from : ℕ) (t₀ : Text) where
   unfolding hashEntries
   rows-on i t u e f = rw (add-one, ← e) f
 
-  pub rows-end : (i n : ℕ) (t : Text) (q : Sections) → t ≡ hashEntries s k from i t₀ → i ≤ n → n ≤ i → from ≡ sectionStart q k → n ≡ countIn s q k → t ≡ hashEntries s k (sectionStart q k) (countIn s q k) t₀
-  rows-end i n t q e l m f g = let d : i ≡ n = omega arith in rw (← f, ← g, ← d) e
+  pub rows-end : (i n : ℕ) (t : Text) (q : Sections) (w : Layout) → LayoutIs q k w → t ≡ hashEntries s k (w .from) i t₀ → i ≤ n → n ≤ i → n ≡ countFrom s k (w .from) (w .to)
+      → t ≡ hashEntries s k (sectionStart q k) (countIn s q k) t₀
+  unfolding countIn
+  rows-end i n t q w h e l m g = let d : i ≡ n = omega arith in rw (← h .starts, ← h .ends, ← g, ← d) e
 
-pub ruleset for-hash-entries = (needs, count-from, rows-start, rows-on, rows-end)
+pub rows-widths : (q : Sections) (k : ℕ) (w : Layout) → LayoutIs q k w → WidthsAre k w
+rows-widths q k w h = h .widths
+
+pub ruleset for-hash-entries = (needs, rows-start, rows-on, rows-end, rows-widths)
 
 -- hash_kinds
 module _ (s : Text) (q : Sections) (t₀ : Text) where

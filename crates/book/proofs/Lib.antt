@@ -6,9 +6,12 @@ pub mod OrderlyLaws
 pub mod FormLaws
 pub mod ReadLaws
 pub mod RunLaws
+pub mod LayoutLaws
+pub mod CodeLaws
+pub mod FitLaws
 pub mod SearchLaws
 pub mod HashLaws
-pub mod ForceLaws
+pub mod DayLaws
 pub mod KindLaws
 pub mod SectionLaws
 pub mod SoughtLaws

@@ -1,7 +1,6 @@
 -- For each public function: no second answer meets its contract.
 -- Assumes nothing.
 use mathlib.Core.Path.{_≡_}
-use mathlib.Core.Bool.{Bool}
 use Prim.Native.Nat.{ℕ}
 use lib.ListN.{drop}
 use Rattle.house.specs.Text.{Text}
@@ -11,8 +10,8 @@ use Rattle.book.specs.declared.Sections.{Sections}
 use Rattle.book.specs.declared.Validity.{Validity}
 use Rattle.book.specs.declared.Found.{Found}
 use Rattle.book.specs.declared.Standing.{Standing}
-use Rattle.book.specs.Book.{readAt, validOf}
-use Rattle.book.specs.LookUp.{foundIn, inForceAt, standingIn, withHashTable}
+use Rattle.book.specs.Book.{codeText, readAt, validOf}
+use Rattle.book.specs.LookUp.{foundIn, standingBy, withHashTable}
 
 pub read-one : (p : Position) (s : Text) (x y : Read) → x ≡ readAt (p .at) (drop (p .at) s) → y ≡ readAt (p .at) (drop (p .at) s) → x ≡ y
 read-one p s x y e f = cc
@@ -20,13 +19,10 @@ read-one p s x y e f = cc
 pub valid-one : (s : Text) (x y : Validity) → x ≡ validOf s → y ≡ validOf s → x ≡ y
 valid-one s x y e f = cc
 
-pub find-one : (s : Text) (q : Sections) (k : ℕ) (a b : Text) (x y : Found) → x ≡ foundIn s q k a b → y ≡ foundIn s q k a b → x ≡ y
+pub find-one : (s : Text) (q : Sections) (k : ℕ) (a b : Text) (x y : Found) → x ≡ foundIn s q k (codeText k a b) → y ≡ foundIn s q k (codeText k a b) → x ≡ y
 find-one s q k a b x y e f = cc
 
-pub in-force-one : (s : Text) (p : Position) (d : ℕ) (x y : Bool) → x ≡ inForceAt d (drop (p .at) s) → y ≡ inForceAt d (drop (p .at) s) → x ≡ y
-in-force-one s p d x y e f = cc
-
-pub look-up-one : (s : Text) (q : Sections) (k : ℕ) (a b : Text) (d : ℕ) (x y : Standing) → x ≡ standingIn s q k a b d → y ≡ standingIn s q k a b d → x ≡ y
+pub look-up-one : (s : Text) (q : Sections) (k : ℕ) (a b : Text) (d : ℕ) (x y : Standing) → x ≡ standingBy s q k (codeText k a b) d → y ≡ standingBy s q k (codeText k a b) d → x ≡ y
 look-up-one s q k a b d x y e f = cc
 
 pub hash-book-one : (s : Text) (q : Sections) (room x y : Text) → x ≡ withHashTable s q room → y ≡ withHashTable s q room → x ≡ y

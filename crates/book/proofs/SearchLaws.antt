@@ -1,143 +1,29 @@
--- What each need of the look-up asks: `Sections::start`, `codes_fit`, `widths_of`, `code_order`, `section_count`, `probe`, `found_if`, `at_hash`,
--- `binary_search`, `sought` and `find`.
+-- What each need of the look-up asks: `probe`, `named`, `binary_search`, `sought`, `in_section`, `found` and `find`.
 -- Assumes nothing.
 use mathlib.Core.Path.{_≡_, refl, sym, ap, _∙_}
-use mathlib.Core.Bool.{Bool, true, false}
-use mathlib.Core.List.{[], _∷_}
+use mathlib.Core.Bool.{Bool, true, false, cond, _&&_}
 use Prim.Native.Nat.{ℕ, zero, suc, _+_, _-_, _*_, _/_, _≤_, _<_}
-use native.Mathlib.Nat.{add-sub-cancel-left, suc-mul, mul-le-mul-right, div-mul-le-self, not-suc-le-zero, le-of-suc-le-suc}
+use native.Mathlib.Nat.{suc-mul, mul-le-mul, mul-le-mul-right, le-div-iff-mul-le, div-lt-iff-lt-mul}
 use native.Mathlib.Omega.{arith}
-use borrow.Author.Tests.{ne-eqb, le-leb, lt-leb, le-ltb, lt-ltb, leb-true}
+use borrow.Author.Tests.{le-leb, lt-leb, le-ltb, lt-ltb}
 use borrow.Author.Needs.{needs}
-use lib.Dec.{leb}
-use lib.ListN.{length, take, drop, length-drop}
-use lib.Seq.{drop-drop, take-add, length-take-le}
-use Rattle.house.specs.Text.{Text, orderOf, pad}
+use lib.Dec.{leb, ltb}
+use lib.ListN.{length}
+use Rattle.house.specs.Text.{Text, isSame, same}
 use Rattle.house.specs.Search.{binarySearch}
 use Rattle.house.specs.declared.Order.{Order}
 use Rattle.house.specs.declared.Order.the-variants.{Less, Same, More}
-use Rattle.house.proofs.Small.{both}
-use Rattle.house.proofs.OrderAlgebra.{orElse, order-append}
-use Rattle.house.proofs.OrderLaws.{length-pad}
 use Rattle.house.proofs.SearchLaws.{Halves, halves-start, halves-end, turn-up, turn-down, turn-hit}
 use Rattle.book.specs.declared.Sections.{Sections}
+use Rattle.book.specs.declared.Layout.{Layout}
 use Rattle.book.specs.declared.Position.{Position}
 use Rattle.book.specs.declared.Found.{Found}
 use Rattle.book.specs.declared.Found.the-variants.{At, Absent}
-use Rattle.book.specs.Book.{firstWidth, secondWidth, codeWidth, bodyWidth, filled, codeText}
-use Rattle.book.specs.LookUp.{sectionStart, countIn, placeOf, orderAt, foundAt, fits, entryHashed, foundIf, hashedIn, searchedIn, soughtIn, foundIn}
-use Rattle.book.specs.Inside.{codePadded, codeOrder}
-use Rattle.book.proofs.WidthLaws.{code-parts, body-parts}
-
--- Sections::start
-module _ (q : Sections) (k : ℕ) where
-  pub section-at : (v w : ℕ) → k ≡ v → w ≡ sectionStart q v → w ≡ sectionStart q k
-  section-at v w e h = rw e h
-
-  pub section-none : (k ≡ 2 → ⊥) → (k ≡ 3 → ⊥) → (k ≡ 4 → ⊥) → (k ≡ 5 → ⊥) → (k ≡ 6 → ⊥) → (k ≡ 7 → ⊥) → (k ≡ 8 → ⊥) → (k ≡ 9 → ⊥) → 0 ≡ sectionStart q k
-  unfolding sectionStart
-  section-none a b c d e f g h = simp (ne-eqb _ _ a, ne-eqb _ _ b, ne-eqb _ _ c, ne-eqb _ _ d, ne-eqb _ _ e, ne-eqb _ _ f, ne-eqb _ _ g, ne-eqb _ _ h)
-
-pub ruleset for-section = (needs, section-at, section-none)
-
--- codes_fit
-module _ (k : ℕ) (a b : Text) (w : ℕ) (e : w ≡ firstWidth k) where
-  pub fits-first : w < length a → false ≡ fits k a b
-  unfolding fits
-  fits-first h = rw (← e, lt-leb _ _ h)
-
-  module _ (h : length a ≤ w) (v : ℕ) (g : v ≡ secondWidth k) where
-    pub fits-second : v < length b → false ≡ fits k a b
-    unfolding fits
-    fits-second l = rw (← e, le-leb _ _ h, ← g, lt-leb _ _ l)
-
-    pub fits-both : length b ≤ v → true ≡ fits k a b
-    unfolding fits
-    fits-both l = rw (← e, le-leb _ _ h, ← g, le-leb _ _ l)
-
-pub ruleset for-codes-fit = (needs, fits-first, fits-second, fits-both)
-
--- texts that fit, padded
-filled-pad : (w : ℕ) (t : Text) → length t ≤ w → filled w t ≡ pad w t
-unfolding pad
-filled-pad zero [] l = refl
-filled-pad zero (b ∷ t) l = absurd (not-suc-le-zero l)
-filled-pad (suc w) [] l = ap (λ (t : Text). 32 ∷ t) (filled-pad w [] (omega arith))
-filled-pad (suc w) (b ∷ t) l = ap (λ (t : Text). b ∷ t) (filled-pad w t (le-of-suc-le-suc l))
-
-pub code-text : (k : ℕ) (a b : Text) → fits k a b ≡ true → codeText k a b ≡ codePadded k a b
-unfolding codeText codePadded fits
-code-text k a b h =
-    let p = both (leb (length a) (firstWidth k)) (leb (length b) (secondWidth k)) h in
-    rw (filled-pad (firstWidth k) a (leb-true _ _ (p .0)), filled-pad (secondWidth k) b (leb-true _ _ (p .1)))
-
--- widths_of
-module _ (k w : ℕ) (ew : w ≡ bodyWidth k) where
-  pub entry-is : w + 1 ≡ bodyWidth k + 1
-  entry-is = rw ew
-
-  pub codes-in : (p q : ℕ) → p ≡ firstWidth k → q ≡ secondWidth k → p + q < w + 1
-  codes-in p q ep eq = omega (arith, code-parts k, body-parts k)
-
-pub ruleset for-widths-of = (needs, entry-is, codes-in)
-
--- code_order
-module _ (s : Text) (at p q : ℕ) (l : at + p + q ≤ length s) where
-  -- a part of the book, as the code lends it, against a padded text
-  part : (i w : ℕ) (x : Text) → i + w ≤ length s → orderOf (take (i + w - i) (drop i s)) (pad (length (take (i + w - i) (drop i s))) x) ≡ orderOf (take w (drop i s)) (pad w x)
-  part i w x h =
-      let n : i + w - i ≡ w = add-sub-cancel-left i w in
-      let m : length (take w (drop i s)) ≡ w = length-take-le w (drop i s) (omega (arith, length-drop i s)) in
-      rw (n, m)
-
-  module _ (a b : Text) where
-    whole : codeOrder s at p q a b ≡ orElse (orderOf (take p (drop at s)) (pad p a)) (orderOf (take q (drop (at + p) s)) (pad q b))
-    unfolding codeOrder
-    whole =
-        let d : drop p (drop at s) ≡ drop (at + p) s = drop-drop p at s in
-        let n : length (take p (drop at s)) ≡ length (pad p a) = length-take-le p (drop at s) (omega (arith, length-drop at s)) ∙ sym (length-pad p a) in
-        rw (take-add p q (drop at s), d) (order-append (take p (drop at s)) (pad p a) (take q (drop (at + p) s)) (pad q b) n)
-
-    module _ (o : Order) (e : o ≡ orderOf (take (at + p - at) (drop at s)) (pad (length (take (at + p - at) (drop at s))) a)) where
-      first-is : (z : Order) → o ≡ z → codeOrder s at p q a b ≡ orElse z (orderOf (take q (drop (at + p) s)) (pad q b))
-      first-is z h = whole ∙ ap (λ (y : Order). orElse y (orderOf (take q (drop (at + p) s)) (pad q b))) (sym (e ∙ part at p a (omega arith)) ∙ h)
-
-      pub order-less : o ≡ Less → Less ≡ codeOrder s at p q a b
-      order-less h = sym (first-is Less h)
-
-      pub order-more : o ≡ More → More ≡ codeOrder s at p q a b
-      order-more h = sym (first-is More h)
-
-      pub order-same : (r : Order) → o ≡ Same → r ≡ orderOf (take (at + p + q - (at + p)) (drop (at + p) s)) (pad (length (take (at + p + q - (at + p)) (drop (at + p) s))) b) → r ≡ codeOrder s at p q a b
-      order-same r h f = f ∙ part (at + p) q b l ∙ sym (first-is Same h)
-
-pub ruleset for-code-order = (needs, order-less, order-more, order-same)
-
--- section_count
-module _ (s : Text) (q : Sections) (k from to : ℕ) (ef : from ≡ sectionStart q k) (et : to ≡ sectionStart q (k + 1)) where
-  pub count-back : to < from → 0 ≡ countIn s q k
-  unfolding countIn
-  count-back h = rw (← ef, ← et, lt-leb from to h)
-
-  pub count-out : from ≤ to → length s < to → 0 ≡ countIn s q k
-  unfolding countIn
-  count-out h l = rw (← ef, ← et, le-leb from to h, lt-leb to (length s) l)
-
-  module _ (w : ℕ) (ew : w ≡ bodyWidth k + 1) (h : from ≤ to) (l : to ≤ length s) where
-    pub count-is : (to - from) / w ≡ countIn s q k
-    unfolding countIn
-    count-is = rw (← ef, ← et, le-leb from to h, le-leb to (length s) l, ew)
-
-    pub count-in : (to - from) / w * w ≤ length s - sectionStart q k
-    count-in =
-        let m : (to - from) / w * w ≤ to - from = div-mul-le-self (to - from) w in
-        omega arith
-
--- what a count says of the section's start, as the callers name it
-pub count-from : (s : Text) (q : Sections) (k from n w : ℕ) → from ≡ sectionStart q k → n * w ≤ length s - sectionStart q k → n * w ≤ length s - from
-count-from s q k from n w e h = rw e h
-
-pub ruleset for-section-count = (needs, count-back, count-out, count-is, count-in)
+use Rattle.book.specs.Book.{firstWidth, secondWidth, codeWidth, bodyWidth, codeText}
+use Rattle.book.specs.LookUp.{sectionStart, countFrom, countIn, placeOf, codeAt, orderAt, foundAt, entryHashed, namedIn, searchedIn, soughtIn, foundIn}
+use Rattle.book.specs.Inside.{fits, codePadded, codeOrder, WidthsAre, LayoutIs, Laid, Lies, FoundIs, NamedIs, SearchedIs, SoughtIs, HashedIs}
+use Rattle.book.proofs.FitLaws.{fit-says, code-text, fits-is}
+use Rattle.book.proofs.LayoutLaws.{count-is, count-in, count-back, count-out}
 
 -- probe
 module _ (s : Text) (from n i w p q : ℕ) (h : i < n) (g : n * w ≤ length s - from) (v : p + q < w) where
@@ -161,34 +47,88 @@ module _ (s : Text) (from n i w p q : ℕ) (h : i < n) (g : n * w ≤ length s -
 
 pub ruleset for-probe = (needs, probe-mul, probe-add, probe-body, probe-code)
 
--- found_if
-module _ (o : Order) (at : ℕ) where
-  pub found-less : o ≡ Less → Absent ≡ foundIf o at
-  unfolding foundIf
-  found-less e = rw e
+-- entries that are laid out so
+module _ (s : Text) (k : ℕ) (w : Layout) (h : Laid s k w) where
+  pub laid-up : w .from ≤ w .to
+  laid-up = h .up
 
-  pub found-more : o ≡ More → Absent ≡ foundIf o at
-  unfolding foundIf
-  found-more e = rw e
+  pub laid-widths : WidthsAre k w
+  laid-widths = h .widths
 
-  pub found-same : o ≡ Same → At (record { at = at }) ≡ foundIf o at
-  unfolding foundIf
-  found-same e = rw e
+  laid-pos : 0 < w .entry
+  laid-pos = omega (arith, h .widths .codes-in)
 
-pub ruleset for-found-if = (needs, found-less, found-more, found-same)
+  pub laid-codes : w .first + w .second < w .entry
+  laid-codes = h .widths .codes-in
 
--- at_hash
-module _ (s : Text) (q : Sections) (k : ℕ) (a b : Text) (f : fits k a b ≡ true) (from n i : ℕ) (ef : from ≡ sectionStart q k) (en : n ≡ countIn s q k) (ei : i ≡ entryHashed s q k (codeText k a b)) where
-  pub at-hash-past : n ≤ i → Absent ≡ hashedIn s q k (codeText k a b)
-  unfolding hashedIn
-  at-hash-past h = rw (← en, ← ei, le-ltb i n h)
+  laid-count : (w .to - w .from) / w .entry * w .entry ≤ length s - w .from
+  laid-count = count-in s k (w .from) (w .to) (h .up) (h .within) (w .entry)
 
-  pub at-hash-is : (r : Found) (o : Order) (at w p v : ℕ) → i < n → w ≡ bodyWidth k + 1 → p ≡ firstWidth k → v ≡ secondWidth k → at ≡ from + i * w → o ≡ codeOrder s (from + i * w + 1) p v a b → r ≡ foundIf o at → r ≡ hashedIn s q k (codeText k a b)
-  unfolding hashedIn orderAt placeOf codeOrder codePadded codeWidth
-  at-hash-is r o at w p v h ew ep eq ea eo er =
-      er ∙ rw (eo, ea, ← en, ← ei, lt-ltb i n h, ← ef, code-text k a b f, ew, ep, eq)
+  count : (w .to - w .from) / w .entry ≡ countFrom s k (w .from) (w .to)
+  count = count-is s k (w .from) (w .to) (h .up) (h .within) (w .entry) (h .widths .entry-is)
 
-pub ruleset for-at-hash = (needs, count-from, at-hash-past, at-hash-is)
+  -- named
+  module _ (i : ℕ) where
+    pub named-mul : i < 65536 → (i + 1) * w .entry < 18446744073709551616
+    named-mul l =
+        let j : i + 1 ≤ 65536 = omega arith in
+        let g : (i + 1) * w .entry ≤ 65536 * 49 = mul-le-mul j (h .widths .small) in
+        omega arith
+
+    module _ (g : (i + 1) * w .entry ≤ w .to - w .from) where
+      named-under : i < (w .to - w .from) / w .entry
+      named-under =
+          let z : i + 1 ≤ (w .to - w .from) / w .entry = le-div-iff-mul-le laid-pos .1 g in
+          omega arith
+
+      module _ (z : length s < 18446744073709551616) where
+        pub named-entry : i * w .entry < 18446744073709551616
+        named-entry = probe-mul s (w .from) ((w .to - w .from) / w .entry) i (w .entry) (w .first) (w .second) named-under laid-count laid-codes z
+
+        pub named-at : w .from + i * w .entry < 18446744073709551616
+        named-at = probe-add s (w .from) ((w .to - w .from) / w .entry) i (w .entry) (w .first) (w .second) named-under laid-count laid-codes z
+
+        pub named-body : w .from + i * w .entry + 1 < 18446744073709551616
+        named-body = probe-body s (w .from) ((w .to - w .from) / w .entry) i (w .entry) (w .first) (w .second) named-under laid-count laid-codes z
+
+      pub named-code : w .from + i * w .entry + 1 + w .first + w .second ≤ length s
+      named-code = probe-code s (w .from) ((w .to - w .from) / w .entry) i (w .entry) (w .first) (w .second) named-under laid-count laid-codes
+
+    module _ (a b : Text) where
+      pub named-past : w .to - w .from < (i + 1) * w .entry → NamedIs s k w i a b Absent
+      unfolding namedIn
+      named-past l =
+          let z : (w .to - w .from) / w .entry < i + 1 = div-lt-iff-lt-mul laid-pos .1 l in
+          let o : countFrom s k (w .from) (w .to) ≤ i = omega (arith, count) in
+          record { exact = rw (le-ltb i (countFrom s k (w .from) (w .to)) o); lies = tt }
+
+      module _ (f : fits k a b ≡ true) where
+        pub named-first : length a ≤ w .first
+        named-first = omega (arith, fit-says k a b f .0, h .widths .first-is)
+
+        pub named-second : length b ≤ w .second
+        named-second = omega (arith, fit-says k a b f .1, h .widths .second-is)
+
+        module _ (g : (i + 1) * w .entry ≤ w .to - w .from) (r : Bool) (e : r ≡ isSame (codeOrder s (w .from + i * w .entry + 1) (w .first) (w .second) a b)) where
+          asked : (ltb i (countFrom s k (w .from) (w .to)) && same (codeAt s k (w .from) i) (codeText k a b)) ≡ r
+          unfolding codeAt placeOf same codeOrder codePadded codeWidth
+          asked =
+              let u : i < countFrom s k (w .from) (w .to) = omega (arith, count, named-under g) in
+              sym (e ∙ rw (h .widths .entry-is, h .widths .first-is, h .widths .second-is, lt-ltb i (countFrom s k (w .from) (w .to)) u, code-text k a b f))
+
+          pub named-miss : r ≡ false → NamedIs s k w i a b Absent
+          unfolding namedIn
+          named-miss z = record { exact = rw (asked, z); lies = tt }
+
+          pub named-hit : r ≡ true → NamedIs s k w i a b (At (record { at = w .from + i * w .entry }))
+          unfolding namedIn foundAt placeOf
+          named-hit z =
+              record {
+                exact = rw (asked, z, h .widths .entry-is);
+                lies = omega (arith, probe-in s (w .from) ((w .to - w .from) / w .entry) i (w .entry) (w .first) (w .second) (named-under g) laid-count laid-codes, h .widths .entry-is);
+              }
+
+pub ruleset for-named = (needs, laid-up, named-mul, named-entry, named-at, named-body, named-code, named-past, named-first, named-second, named-miss, named-hit)
 
 -- binary_search: what is left to search
 abbrev pub Seeks : Text → ℕ → ℕ → ℕ → Text → ℕ → ℕ → Type 0
@@ -198,64 +138,124 @@ module _ (s : Text) (k from n : ℕ) where
   pub search-start : (x : Text) → Seeks s k from n x 0 n
   search-start x = halves-start (orderAt s k from x) (foundAt k from) Absent n
 
-  module _ (lo hi : ℕ) (a b : Text) (inv : Seeks s k from n (codePadded k a b) lo hi) where
-    module _ (h : lo < hi) (o : Order) (w p q : ℕ) (e : o ≡ codeOrder s (from + (lo + (hi - lo) / 2) * w + 1) p q a b) (ew : w ≡ bodyWidth k + 1) (ep : p ≡ firstWidth k) (eq : q ≡ secondWidth k) where
-      probed : orderAt s k from (codePadded k a b) (lo + (hi - lo) / 2) ≡ o
-      unfolding orderAt placeOf codePadded codeOrder codeWidth
-      probed = rw (e, ew, ep, eq)
+module _ (s : Text) (k : ℕ) (w : Layout) (n lo hi : ℕ) (a b : Text) (y : Laid s k w) (inv : Seeks s k (w .from) n (codePadded k a b) lo hi) where
+  module _ (h : lo < hi) (o : Order) (e : o ≡ codeOrder s (w .from + (lo + (hi - lo) / 2) * w .entry + 1) (w .first) (w .second) a b) where
+    probed : orderAt s k (w .from) (codePadded k a b) (lo + (hi - lo) / 2) ≡ o
+    unfolding orderAt codeAt placeOf codePadded codeOrder codeWidth
+    probed = rw (e, y .widths .entry-is, y .widths .first-is, y .widths .second-is)
 
-      pub search-up : o ≡ Less → Seeks s k from n (codePadded k a b) (lo + (hi - lo) / 2 + 1) hi
-      search-up z = turn-up (orderAt s k from (codePadded k a b)) (foundAt k from) Absent (binarySearch (orderAt s k from (codePadded k a b)) (foundAt k from) Absent n 0 n) lo hi inv h o probed z
+    pub search-up : o ≡ Less → Seeks s k (w .from) n (codePadded k a b) (lo + (hi - lo) / 2 + 1) hi
+    search-up z = turn-up (orderAt s k (w .from) (codePadded k a b)) (foundAt k (w .from)) Absent (binarySearch (orderAt s k (w .from) (codePadded k a b)) (foundAt k (w .from)) Absent n 0 n) lo hi inv h o probed z
 
-      pub search-down : o ≡ More → Seeks s k from n (codePadded k a b) lo (lo + (hi - lo) / 2)
-      search-down z = turn-down (orderAt s k from (codePadded k a b)) (foundAt k from) Absent (binarySearch (orderAt s k from (codePadded k a b)) (foundAt k from) Absent n 0 n) lo hi inv h o probed z
+    pub search-down : o ≡ More → Seeks s k (w .from) n (codePadded k a b) lo (lo + (hi - lo) / 2)
+    search-down z = turn-down (orderAt s k (w .from) (codePadded k a b)) (foundAt k (w .from)) Absent (binarySearch (orderAt s k (w .from) (codePadded k a b)) (foundAt k (w .from)) Absent n 0 n) lo hi inv h o probed z
 
-    module _ (j : Sections) (ef : from ≡ sectionStart j k) (en : n ≡ countIn s j k) (f : fits k a b ≡ true) where
-      sought : binarySearch (orderAt s k from (codePadded k a b)) (foundAt k from) Absent n 0 n ≡ searchedIn s j k (codeText k a b)
-      unfolding searchedIn
-      sought = rw (ef, en, code-text k a b f)
+  module _ (en : n ≡ countFrom s k (w .from) (w .to)) (u : n * w .entry ≤ length s - w .from) (f : fits k a b ≡ true) where
+    sought : binarySearch (orderAt s k (w .from) (codePadded k a b)) (foundAt k (w .from)) Absent n 0 n ≡ searchedIn s k (w .from) (countFrom s k (w .from) (w .to)) (codeText k a b)
+    unfolding searchedIn
+    sought = rw (en, code-text k a b f)
 
-      pub search-end : hi ≤ lo → Absent ≡ searchedIn s j k (codeText k a b)
-      search-end h = halves-end (orderAt s k from (codePadded k a b)) (foundAt k from) Absent (binarySearch (orderAt s k from (codePadded k a b)) (foundAt k from) Absent n 0 n) lo hi inv h ∙ sought
+    pub search-end : hi ≤ lo → SearchedIs s k w a b Absent
+    search-end h = record { exact = halves-end (orderAt s k (w .from) (codePadded k a b)) (foundAt k (w .from)) Absent (binarySearch (orderAt s k (w .from) (codePadded k a b)) (foundAt k (w .from)) Absent n 0 n) lo hi inv h ∙ sought; lies = tt }
 
-      pub search-hit : (h : lo < hi) (o : Order) (at w p q : ℕ) → o ≡ codeOrder s (from + (lo + (hi - lo) / 2) * w + 1) p q a b → at ≡ from + (lo + (hi - lo) / 2) * w → w ≡ bodyWidth k + 1 → p ≡ firstWidth k → q ≡ secondWidth k → o ≡ Same → At (record { at = at }) ≡ searchedIn s j k (codeText k a b)
-      unfolding foundAt placeOf
-      search-hit h o at w p q e v ew ep eq z =
-          let r : at ≡ from + (lo + (hi - lo) / 2) * (bodyWidth k + 1) = v ∙ ap (λ (y : ℕ). from + (lo + (hi - lo) / 2) * y) ew in
-          ap (λ (y : ℕ). At (record { at = y })) r
-          ∙ turn-hit (orderAt s k from (codePadded k a b)) (foundAt k from) Absent (binarySearch (orderAt s k from (codePadded k a b)) (foundAt k from) Absent n 0 n) lo hi inv h o (probed h o w p q e ew ep eq) z
-          ∙ sought
+    pub search-hit : (h : lo < hi) (o : Order) (at : ℕ) → hi ≤ n → o ≡ codeOrder s (w .from + (lo + (hi - lo) / 2) * w .entry + 1) (w .first) (w .second) a b → at ≡ w .from + (lo + (hi - lo) / 2) * w .entry → o ≡ Same → SearchedIs s k w a b (At (record { at = at }))
+    unfolding foundAt placeOf
+    search-hit h o at g e v z =
+        let r : at ≡ w .from + (lo + (hi - lo) / 2) * (bodyWidth k + 1) = v ∙ ap (λ (x : ℕ). w .from + (lo + (hi - lo) / 2) * x) (y .widths .entry-is) in
+        let m : lo + (hi - lo) / 2 < n = omega arith in
+        record {
+          exact = ap (λ (x : ℕ). At (record { at = x })) r
+              ∙ turn-hit (orderAt s k (w .from) (codePadded k a b)) (foundAt k (w .from)) Absent (binarySearch (orderAt s k (w .from) (codePadded k a b)) (foundAt k (w .from)) Absent n 0 n) lo hi inv h o (probed h o e) z
+              ∙ sought;
+          lies = omega (arith, probe-in s (w .from) n (lo + (hi - lo) / 2) (w .entry) (w .first) (w .second) m u (y .widths .codes-in), y .widths .entry-is);
+        }
 
-pub ruleset for-binary-search = (needs, count-from, search-start, search-up, search-down, search-end, search-hit)
+pub ruleset for-binary-search = (needs, laid-widths, laid-codes, search-start, search-up, search-down, search-end, search-hit)
 
 -- sought
-module _ (s : Text) (q : Sections) (k : ℕ) (a b : Text) (g : Found) (e : g ≡ hashedIn s q k (codeText k a b)) where
-  pub sought-hash : (p : Position) → g ≡ At p → At p ≡ soughtIn s q k (codeText k a b)
+module _ (s : Text) (k : ℕ) (w : Layout) (i : ℕ) (a b : Text) (g : Found) (e : NamedIs s k w i a b g) where
+  pub sought-named : (p : Position) → g ≡ At p → SoughtIs s k w i a b (At p)
   unfolding soughtIn
-  sought-hash p h = rw (← e, h)
+  sought-named p h =
+      let z : namedIn s k (w .from) (countFrom s k (w .from) (w .to)) (codeText k a b) i ≡ At p = sym (e .exact) ∙ h in
+      record { exact = rw z; lies = rw h at (e .lies) }
 
-  pub sought-search : g ≡ Absent → (r : Found) → r ≡ searchedIn s q k (codeText k a b) → r ≡ soughtIn s q k (codeText k a b)
+  pub sought-search : g ≡ Absent → (r : Found) → SearchedIs s k w a b r → SoughtIs s k w i a b r
   unfolding soughtIn
-  sought-search h r f = rw (← e, h) f
+  sought-search h r f =
+      let z : namedIn s k (w .from) (countFrom s k (w .from) (w .to)) (codeText k a b) i ≡ Absent = sym (e .exact) ∙ h in
+      record { exact = rw z (f .exact); lies = f .lies }
 
-pub ruleset for-sought = (needs, sought-hash, sought-search)
+pub ruleset for-sought = (needs, sought-named, sought-search)
+
+-- in_section
+none-sought : (s : Text) (k from : ℕ) (x : Text) (i : ℕ) → Absent ≡ soughtIn s k from 0 x i
+unfolding soughtIn namedIn searchedIn binarySearch
+none-sought s k from x i = rw (le-ltb i 0 (omega arith))
+
+module _ (s : Text) (k end : ℕ) (w : Layout) (a b : Text) where
+  none-there : 0 ≡ countFrom s k (w .from) (w .to) → HashedIs s k w end a b Absent
+  none-there h = record { exact = rw (← h) (none-sought s k (w .from) (codeText k a b) (entryHashed s end k (codeText k a b))); lies = tt }
+
+  pub section-back : w .to < w .from → HashedIs s k w end a b Absent
+  section-back h = none-there (count-back s k (w .from) (w .to) h)
+
+  pub section-out : w .from ≤ w .to → length s < w .to → HashedIs s k w end a b Absent
+  section-out g h = none-there (count-out s k (w .from) (w .to) g h)
+
+  pub section-laid : WidthsAre k w → w .from ≤ w .to → w .to ≤ length s → Laid s k w
+  section-laid h g l = record { up = g; within = l; widths = h }
+
+  pub section-is : (i : ℕ) (r : Found) → i ≡ entryHashed s end k (codeText k a b) → SoughtIs s k w i a b r → HashedIs s k w end a b r
+  section-is i r e f = rw e at f
+
+pub ruleset for-in-section = (needs, section-back, section-out, section-laid, section-is)
+
+-- found
+module _ (s : Text) (q : Sections) (k : ℕ) (a b : Text) where
+  pub found-kind : 8 < k → FoundIs s k (foundIn s q k (codeText k a b)) Absent
+  unfolding foundIn
+  found-kind h = record { exact = rw (lt-leb k 8 h); lies = tt }
+
+  module _ (l : k ≤ 8) (w : Layout) (e : LayoutIs q k w) where
+    pub found-widths : WidthsAre k w
+    found-widths = e .widths
+
+    unfit : fits k a b ≡ false → FoundIs s k (foundIn s q k (codeText k a b)) Absent
+    unfolding foundIn
+    unfit h = record { exact = rw (le-leb k 8 l, ← fits-is k a b, h); lies = tt }
+
+    pub found-first : w .first < length a → FoundIs s k (foundIn s q k (codeText k a b)) Absent
+    unfolding fits
+    found-first h =
+        let z : firstWidth k < length a = omega (arith, e .widths .first-is) in
+        unfit (rw (lt-leb (length a) (firstWidth k) z))
+
+    module _ (g : length a ≤ w .first) where
+      first-in : leb (length a) (firstWidth k) ≡ true
+      first-in = le-leb (length a) (firstWidth k) (omega (arith, e .widths .first-is))
+
+      pub found-second : w .second < length b → FoundIs s k (foundIn s q k (codeText k a b)) Absent
+      unfolding fits
+      found-second h =
+          let z : secondWidth k < length b = omega (arith, e .widths .second-is) in
+          unfit (rw (first-in, lt-leb (length b) (secondWidth k) z))
+
+      module _ (h : length b ≤ w .second) where
+        pub found-fits : fits k a b ≡ true
+        unfolding fits
+        found-fits =
+            let z : length b ≤ secondWidth k = omega (arith, e .widths .second-is) in
+            rw (first-in, le-leb (length b) (secondWidth k) z)
+
+        pub found-is : (r : Found) → HashedIs s k w (q .end) a b r → FoundIs s k (foundIn s q k (codeText k a b)) r
+        unfolding foundIn countIn
+        found-is r f = record { exact = f .exact ∙ rw (le-leb k 8 l, ← fits-is k a b, found-fits, e .starts, e .ends); lies = f .lies }
+
+pub ruleset for-found = (needs, found-kind, found-widths, found-first, found-second, found-fits, found-is)
 
 -- find
-module _ (s : Text) (q : Sections) (k : ℕ) (a b : Text) where
-  pub find-kind : 8 < k → Absent ≡ foundIn s q k a b
-  unfolding foundIn
-  find-kind h = rw (lt-leb k 8 h)
+pub find-is : (s : Text) (k : ℕ) (f r : Found) → FoundIs s k f r → r ≡ f
+find-is s k f r h = h .exact
 
-  module _ (g : k ≤ 8) (r : Bool) (e : r ≡ fits k a b) where
-    pub find-fits : r ≡ true → fits k a b ≡ true
-    find-fits h = sym e ∙ h
-
-    pub find-is : (x : Found) → r ≡ true → x ≡ soughtIn s q k (codeText k a b) → x ≡ foundIn s q k a b
-    unfolding foundIn
-    find-is x h f = rw (le-leb k 8 g, ← e, h) f
-
-    pub find-long : r ≡ false → Absent ≡ foundIn s q k a b
-    unfolding foundIn
-    find-long h = rw (le-leb k 8 g, ← e, h)
-
-pub ruleset for-find = (needs, find-kind, find-fits, find-is, find-long)
+pub ruleset for-find = (needs, find-is)

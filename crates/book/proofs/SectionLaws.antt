@@ -14,7 +14,7 @@ use Rattle.house.specs.Text.{Text, any}
 use Rattle.house.proofs.Small.{both}
 use Rattle.book.specs.declared.Sections.{Sections}
 use Rattle.book.specs.Book.{bodyWidth, Entry, entries, bytesBefore, bookOk, sectionsOf, Sound}
-use Rattle.book.specs.LookUp.{sectionStart, countIn}
+use Rattle.book.specs.LookUp.{sectionStart, countFrom, countIn}
 use Rattle.book.specs.Inside.{soundFrom}
 use Rattle.book.proofs.WidthLaws.{by-kind}
 use Rattle.book.proofs.EntryLaws.{bytes-here, floor-zero}
@@ -42,7 +42,7 @@ pub record Section (s book : Text) (q : Sections) (k n : ℕ) : Type 0 where
   pub asks : (p : Entry → Bool) → Only k p → any p (entries book) ≡ anyRow k p (drop (sectionStart q k) s) n
 
 pub section : (s : Text) (q : Sections) → Sound (take (q .end) s) q → (k : ℕ) → k ≤ 8 → (n : ℕ) × Section s (take (q .end) s) q k n
-unfolding countIn
+unfolding countIn countFrom
 section s q h k g =
     let book = take (q .end) s in
     let more = drop (q .end) s in

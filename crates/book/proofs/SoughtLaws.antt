@@ -10,22 +10,21 @@ use borrow.Author.Tests.{eq-eqb, ne-eqb, ltb-true}
 use lib.Dec.{eqb, ltb}
 use lib.ListN.{take, drop}
 use lib.Seq.{drop-drop}
-use Rattle.house.specs.Text.{Text, orderOf}
+use Rattle.house.specs.Text.{Text, orderOf, same}
 use Rattle.house.specs.Search.{binarySearch}
 use Rattle.house.specs.declared.Order.{Order}
 use Rattle.house.specs.declared.Order.the-variants.{Less, Same, More}
 use Rattle.house.proofs.Small.{clash, Three, lt, eq, gt, three}
 use Rattle.house.proofs.OrderAlgebra.{less-trans, same-eq}
-use Rattle.house.proofs.Decisions.{is-same, not-same, order-refl}
+use Rattle.house.proofs.Decisions.{is-same, same-true, not-same, order-refl}
 use Rattle.house.proofs.SearchLaws.{Decides, hit, miss, halve-decides}
 use Rattle.book.specs.declared.Sections.{Sections}
+use Rattle.book.specs.declared.Found.{Found}
 use Rattle.book.specs.declared.Found.the-variants.{Absent}
-use Rattle.book.specs.declared.Standing.the-variants.{Unknown}
-use Rattle.book.specs.Book.{codeWidth, bodyWidth, Entry, entryOf, entries, codeOf, isEntry, listed, listedOn, inForce, standingOf}
-use Rattle.book.specs.LookUp.{sectionStart, countIn, placeOf, orderAt, foundAt, entryHashed, foundIf, hashedIn, searchedIn, elseFound, soughtIn, inForceAt, standingAt}
+use Rattle.book.specs.Book.{codeWidth, bodyWidth, Entry, entryOf, entries, codeOf, isEntry, listed, listedOn, inForce}
+use Rattle.book.specs.LookUp.{sectionStart, countIn, placeOf, codeAt, orderAt, foundAt, namedIn, searchedIn, elseFound, soughtIn, isThere, isInForceAt}
 use Rattle.book.proofs.EntryLaws.{code-is}
-use Rattle.book.proofs.ForceLaws.{force-days}
-use Rattle.book.proofs.KindLaws.{rowAt, row-form, row-head, row-asc, any-miss, any-only, Only}
+use Rattle.book.proofs.KindLaws.{rowAt, row-asc, any-miss, any-only, Only}
 use Rattle.book.proofs.SectionLaws.{Section}
 
 -- the entry that has a kind and a code, by tests
@@ -46,10 +45,6 @@ module _ (k : ℕ) (x : Text) (e : Entry) where
       go true = refl
       go false = refl
 
-pub standing-none : (es : List Entry) (k : ℕ) (x : Text) (d : ℕ) → listed es k x ≡ false → standingOf es k x d ≡ Unknown
-unfolding standingOf
-standing-none es k x d h = rw h
-
 -- a look-up in the section, by hash and by binary search
 module _ (s book : Text) (q : Sections) (k n : ℕ) (sec : Section s book q k n) (x : Text) where
   abbrev from : ℕ
@@ -58,11 +53,20 @@ module _ (s book : Text) (q : Sections) (k n : ℕ) (sec : Section s book q k n)
   abbrev row : ℕ → Entry
   row i = rowAt k (drop from s) i
 
-  order-is : (i : ℕ) → orderAt s k from x i ≡ orderOf (codeOf (row i)) x
-  unfolding orderAt placeOf rowAt
-  order-is i =
+  -- the bytes from its body on
+  row-bytes : (i : ℕ) → drop (placeOf k from i + 1) s ≡ drop (i * (bodyWidth k + 1) + 1) (drop from s)
+  unfolding placeOf
+  row-bytes i =
       let e : from + i * (bodyWidth k + 1) + 1 ≡ from + (i * (bodyWidth k + 1) + 1) = omega arith in
-      ap (λ (t : Text). orderOf t x) (ap (λ (y : ℕ). take (codeWidth k) (drop y s)) e ∙ ap (take (codeWidth k)) (sym (drop-drop (i * (bodyWidth k + 1) + 1) from s)) ∙ sym (code-is k (drop (i * (bodyWidth k + 1) + 1) (drop from s))))
+      ap (λ (y : ℕ). drop y s) e ∙ sym (drop-drop (i * (bodyWidth k + 1) + 1) from s)
+
+  code-of : (i : ℕ) → codeAt s k from i ≡ codeOf (row i)
+  unfolding codeAt rowAt
+  code-of i = ap (take (codeWidth k)) (row-bytes i) ∙ sym (code-is k (drop (i * (bodyWidth k + 1) + 1) (drop from s)))
+
+  order-is : (i : ℕ) → orderAt s k from x i ≡ orderOf (codeOf (row i)) x
+  unfolding orderAt
+  order-is i = ap (λ (t : Text). orderOf t x) (code-of i)
 
   ascends : (i j : ℕ) → i < j → j < n → (orderAt s k from x i ≡ Less) ⊎ (orderAt s k from x j ≡ More)
   ascends i j l m = go (orderOf (codeOf (row j)) x) refl
@@ -78,9 +82,21 @@ module _ (s book : Text) (q : Sections) (k n : ℕ) (sec : Section s book q k n)
   only : (d : ℕ) → Only k (λ (e : Entry). isEntry k x e && inForce d e)
   only d e m = rw (not-kind k x e m)
 
-  misses : ((i : ℕ) → i < n → orderAt s k from x i ≡ Same → ⊥) → listed (entries book) k x ≡ false
-  unfolding listed
-  misses f = sec .asks (isEntry k x) (not-kind k x) ∙ any-miss k (isEntry k x) n (drop from s) (λ i l. not-code k x (row i) (λ e. f i l (order-is i ∙ ap (λ (t : Text). orderOf t x) e ∙ order-refl x)))
+  -- a look-up finds f: what that says is what the entries say
+  record Says (f : Found) : Type 0 where
+    known : isThere f ≡ listed (entries book) k x
+    on : (d : ℕ) → isInForceAt s d k f ≡ listedOn (entries book) d k x
+
+  misses : ((i : ℕ) → i < n → orderAt s k from x i ≡ Same → ⊥) → Says Absent
+  unfolding listed listedOn
+  misses f =
+      record {
+        known = sym (sec .asks (isEntry k x) (not-kind k x) ∙ any-miss k (isEntry k x) n (drop from s) other);
+        on = λ d. sym (sec .asks (λ (e : Entry). isEntry k x e && inForce d e) (only d) ∙ any-miss k (λ (e : Entry). isEntry k x e && inForce d e) n (drop from s) (λ i l. rw (other i l)));
+      }
+    where
+      other : (i : ℕ) → i < n → isEntry k x (row i) ≡ false
+      other i l = not-code k x (row i) (λ e. f i l (order-is i ∙ ap (λ (t : Text). orderOf t x) e ∙ order-refl x))
 
   module _ (m : ℕ) (l : m < n) (o : orderAt s k from x m ≡ Same) where
     code : codeOf (row m) ≡ x
@@ -114,36 +130,35 @@ module _ (s book : Text) (q : Sections) (k n : ℕ) (sec : Section s book q k n)
         ∙ rw (is-entry k x (row m) kind code)
 
     -- the entry that is found is the row
-    force : (d : ℕ) → inForceAt d (drop (placeOf k from m) s) ≡ inForce d (row m)
-    unfolding placeOf rowAt
-    force d =
-        let e : from + m * (bodyWidth k + 1) ≡ from + (m * (bodyWidth k + 1) + 0) = omega arith in
-        ap (inForceAt d) (ap (λ (y : ℕ). drop y s) e ∙ sym (drop-drop (m * (bodyWidth k + 1) + 0) from s) ∙ row-head k n [] (drop from s) (sec .rows) m l)
-        ∙ force-days d k (drop (m * (bodyWidth k + 1) + 1) (drop from s)) (row-form k n [] (drop from s) (sec .rows) m l)
+    force : (d : ℕ) → inForce d (entryOf k (drop (placeOf k from m + 1) s)) ≡ inForce d (row m)
+    unfolding rowAt
+    force d = ap (λ (t : Text). inForce d (entryOf k t)) (row-bytes m)
 
-    hits : (d : ℕ) → standingAt s d (foundAt k from m) ≡ standingOf (entries book) k x d
-    unfolding foundAt standingOf
-    hits d = rw (force d, hits-known, hits-on d)
+    hits : Says (foundAt k from m)
+    unfolding foundAt
+    hits = record { known = sym hits-known; on = λ d. force d ∙ sym (hits-on d) }
 
-  finds : (d : ℕ) → standingAt s d (binarySearch (orderAt s k from x) (foundAt k from) Absent (countIn s q k) 0 (countIn s q k)) ≡ standingOf (entries book) k x d
-  finds d = rw (sec .count) (go (halve-decides (orderAt s k from x) (foundAt k from) Absent n ascends))
+  finds : Says (searchedIn s k from n x)
+  unfolding searchedIn
+  finds = go (halve-decides (orderAt s k from x) (foundAt k from) Absent n ascends)
     where
       go : Decides (orderAt s k from x) (foundAt k from) Absent n (binarySearch (orderAt s k from x) (foundAt k from) Absent n 0 n)
-          → standingAt s d (binarySearch (orderAt s k from x) (foundAt k from) Absent n 0 n) ≡ standingOf (entries book) k x d
-      go (hit m l o e) = rw e (hits m l o d)
-      go (miss f e) = rw e (sym (standing-none (entries book) k x d (misses f)))
+          → Says (binarySearch (orderAt s k from x) (foundAt k from) Absent n 0 n)
+      go (hit m l o e) = rw e (hits m l o)
+      go (miss f e) = rw e (misses f)
 
-  -- whatever the hash table
-  pub sought : (d : ℕ) → standingAt s d (soughtIn s q k x) ≡ standingOf (entries book) k x d
-  unfolding soughtIn hashedIn foundIf searchedIn foundAt
-  sought d = go (ltb i (countIn s q k)) refl (orderAt s k from x i) refl
+  -- whatever entry is asked first
+  says : (i : ℕ) → Says (soughtIn s k from n x i)
+  unfolding soughtIn namedIn foundAt orderAt
+  says i = go (ltb i n) refl (same (codeAt s k from i) x) refl
     where
-      i : ℕ
-      i = entryHashed s q k x
+      go : (u : Bool) → ltb i n ≡ u → (v : Bool) → same (codeAt s k from i) x ≡ v → Says (elseFound (cond (u && v) (foundAt k from i) Absent) (searchedIn s k from n x))
+      go true z true e = hits i (ltb-true i n z) (ap (λ (t : Text). orderOf t x) (same-true (codeAt s k from i) x e) ∙ order-refl x)
+      go true z false e = finds
+      go false z v e = finds
 
-      go : (u : Bool) → ltb i (countIn s q k) ≡ u → (o : Order) → orderAt s k from x i ≡ o
-          → standingAt s d (elseFound (cond u (foundIf o (placeOf k from i)) Absent) (binarySearch (orderAt s k from x) (foundAt k from) Absent (countIn s q k) 0 (countIn s q k))) ≡ standingOf (entries book) k x d
-      go true z Less e = finds d
-      go true z Same e = hits i (omega (arith, ltb-true i (countIn s q k) z, sec .count)) e d
-      go true z More e = finds d
-      go false z o e = finds d
+  pub sought-known : (i : ℕ) → isThere (soughtIn s k from (countIn s q k) x i) ≡ listed (entries book) k x
+  sought-known i = rw (sec .count) (says i .known)
+
+  pub sought-on : (i d : ℕ) → isInForceAt s d k (soughtIn s k from (countIn s q k) x i) ≡ listedOn (entries book) d k x
+  sought-on i d = rw (sec .count) (says i .on d)

@@ -6,10 +6,14 @@ use mathlib.Core.Bool.{Bool, true, cond, _&&_}
 use mathlib.Core.List.{List, [], _∷_, _++_}
 use lib.ListN.{length, take, drop}
 use lib.Dec.{eqb, leb}
-use Rattle.house.specs.Text.{Text, below, number, pad, orderOf}
+use Rattle.house.specs.Text.{Text, below, pad, orderOf}
 use Rattle.house.specs.declared.Order.{Order}
-use Rattle.dates.specs.Dates.{isDate, isEnd}
-use Rattle.book.specs.Book.{vaccine, firstWidth, secondWidth, startWidth, codeWidth, bodyWidth, Entry, entryOf, entries, codeOf, bodyForm, entryForm, above, bytesBefore}
+use Rattle.book.specs.declared.Sections.{Sections}
+use Rattle.book.specs.declared.Layout.{Layout}
+use Rattle.book.specs.declared.Found.{Found}
+use Rattle.book.specs.declared.Found.the-variants.{At, Absent}
+use Rattle.book.specs.LookUp.{sectionStart, countFrom, entryHashed, namedIn, searchedIn, soughtIn}
+use Rattle.book.specs.Book.{firstWidth, secondWidth, codeWidth, bodyWidth, Entry, entryOf, entries, codeOf, bodyForm, entryForm, above, bytesBefore, codeText}
 
 -- Validity, kind by kind
 
@@ -34,19 +38,14 @@ pub record RunIs (s : Text) (from k r : ℕ) : Type 0 where
   pub sound : soundFrom k [] (entries (drop from s)) ≡ soundFrom (k + 1) [] (entries (drop r s))
   pub starts : (j : ℕ) → k < j → from + bytesBefore j (entries (drop from s)) ≡ r + bytesBefore j (entries (drop r s))
 
--- In force, where the form is not known yet
+-- Look-up
 
-unfoldable pub startHolds : ℕ → ℕ → Text → Bool
-startHolds d k t = cond (eqb k vaccine) (isDate t && leb (number t) d) true
+abbrev pub isByte : ℕ → ℕ → Bool
+isByte v b = eqb b v
 
-unfoldable pub endHolds : ℕ → Text → Bool
-endHolds d t = isEnd t && leb d (number t)
-
-unfoldable pub datesHold : ℕ → ℕ → Text → Bool
-datesHold d k t = startHolds d k (take (startWidth k) t) && endHolds d (drop (startWidth k) t)
-
-unfoldable pub bodyHolds : ℕ → ℕ → Text → Bool
-bodyHolds d k t = datesHold d k (drop (codeWidth k) t)
+-- neither text is longer than its width
+unfoldable pub fits : ℕ → Text → Text → Bool
+fits k a b = leb (length a) (firstWidth k) && leb (length b) (secondWidth k)
 
 -- a code of texts that fit
 unfoldable pub codePadded : ℕ → Text → Text → Text
@@ -55,3 +54,50 @@ codePadded k a b = pad (firstWidth k) a ++ pad (secondWidth k) b
 -- how the code of p bytes at a place, and the one of q after it, stand to two texts, padded
 unfoldable pub codeOrder : Text → ℕ → ℕ → ℕ → Text → Text → Order
 codeOrder s at p q a b = orderOf (take (p + q) (drop at s)) (pad p a ++ pad q b)
+
+-- a layout, written out
+abbrev pub layout : ℕ → ℕ → ℕ → ℕ → ℕ → Layout
+layout f t a b e = record { from = f; to = t; first = a; second = b; entry = e }
+
+-- a layout has the widths of kind k
+pub record WidthsAre (k : ℕ) (w : Layout) : Type 0 where
+  pub first-is : w .first ≡ firstWidth k
+  pub second-is : w .second ≡ secondWidth k
+  pub entry-is : w .entry ≡ bodyWidth k + 1
+  pub codes-in : w .first + w .second < w .entry
+  pub small : w .entry ≤ 49
+
+-- it is that of kind k, by these sections
+pub record LayoutIs (q : Sections) (k : ℕ) (w : Layout) : Type 0 where
+  pub starts : w .from ≡ sectionStart q k
+  pub ends : w .to ≡ sectionStart q (k + 1)
+  pub widths : WidthsAre k w
+
+-- it has the widths of kind k, and its bounds lie in the book
+pub record Laid (s : Text) (k : ℕ) (w : Layout) : Type 0 where
+  pub up : w .from ≤ w .to
+  pub within : w .to ≤ length s
+  pub widths : WidthsAre k w
+
+-- an entry of kind k that was found lies in the book
+abbrev pub Lies : Text → ℕ → Found → Type 0
+Lies s k Absent = Unit {0}
+Lies s k (At p) = p .at + 1 + bodyWidth k ≤ length s
+
+-- what a look-up among the entries of a kind hands back
+pub record FoundIs (s : Text) (k : ℕ) (f r : Found) : Type 0 where
+  pub exact : r ≡ f
+  pub lies : Lies s k r
+
+-- by entry i alone, by binary search, by both, and by both with the entry that the table from `end` on names
+abbrev pub NamedIs : Text → ℕ → Layout → ℕ → Text → Text → Found → Type 0
+NamedIs s k w i a b r = FoundIs s k (namedIn s k (w .from) (countFrom s k (w .from) (w .to)) (codeText k a b) i) r
+
+abbrev pub SearchedIs : Text → ℕ → Layout → Text → Text → Found → Type 0
+SearchedIs s k w a b r = FoundIs s k (searchedIn s k (w .from) (countFrom s k (w .from) (w .to)) (codeText k a b)) r
+
+abbrev pub SoughtIs : Text → ℕ → Layout → ℕ → Text → Text → Found → Type 0
+SoughtIs s k w i a b r = FoundIs s k (soughtIn s k (w .from) (countFrom s k (w .from) (w .to)) (codeText k a b) i) r
+
+abbrev pub HashedIs : Text → ℕ → Layout → ℕ → Text → Text → Found → Type 0
+HashedIs s k w end a b r = SoughtIs s k w (entryHashed s end k (codeText k a b)) a b r

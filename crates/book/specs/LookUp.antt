@@ -1,22 +1,22 @@
 -- Look-up in any bytes, by any sections: the entry that the hash of a code names is asked first, then a binary search goes on among the
--- entries of one kind, which all have the same width. For bytes that start with a valid book, by its own sections, it says what the entries
--- say, whatever the hash table
+-- entries of one kind, which all have the same width. What it says are two things of a code: that it is known, and that it is in force on a
+-- day. For bytes that start with a valid book, by its own sections, they are what the book's entries say, whatever the hash table
 -- (proofs/StandingLaws).
 -- Assumes nothing.
 use Prim.Native.Nat.{ℕ, zero, suc, _+_, _-_, _*_, _/_, _%_}
-use mathlib.Core.Bool.{Bool, false, cond, _&&_}
+use mathlib.Core.Bool.{Bool, true, false, cond, _&&_}
 use mathlib.Core.List.{[], _∷_, _++_}
 use lib.ListN.{length, take, drop, getD, set}
 use lib.Dec.{eqb, ltb, leb}
-use Rattle.house.specs.Text.{Text, orderOf}
-use Rattle.house.specs.Search.{byOrder, binarySearch}
+use Rattle.house.specs.Text.{Text, orderOf, same}
+use Rattle.house.specs.Search.{binarySearch}
 use Rattle.house.specs.declared.Order.{Order}
 use Rattle.book.specs.declared.Sections.{Sections}
 use Rattle.book.specs.declared.Found.{Found}
 use Rattle.book.specs.declared.Found.the-variants.{At, Absent}
 use Rattle.book.specs.declared.Standing.{Standing}
 use Rattle.book.specs.declared.Standing.the-variants.{Unknown, OutOfForce, InForce}
-use Rattle.book.specs.Book.{firstWidth, secondWidth, codeWidth, bodyWidth, codeText, entryOf, datesOf, datesForm, isWhole, inForce}
+use Rattle.book.specs.Book.{codeWidth, bodyWidth, entryOf, inForce}
 
 -- where the entries of kind k start, and those of the kind before it end
 unfoldable pub sectionStart : Sections → ℕ → ℕ
@@ -30,86 +30,91 @@ sectionStart q k =
     (cond (eqb k 8) (q .«with_antigen»)
     (cond (eqb k 9) (q .end) 0)))))))
 
--- how many whole entries of kind k its section holds; none where it does not lie in the book
+-- how many whole entries of kind k stand between two bounds; none where these do not lie in the book
+unfoldable pub countFrom : Text → ℕ → ℕ → ℕ → ℕ
+countFrom s k from to = cond (leb from to && leb to (length s)) ((to - from) / (bodyWidth k + 1)) 0
+
+-- how many its section holds
 unfoldable pub countIn : Text → Sections → ℕ → ℕ
-countIn s q k =
-    cond (leb (sectionStart q k) (sectionStart q (k + 1)) && leb (sectionStart q (k + 1)) (length s))
-    ((sectionStart q (k + 1) - sectionStart q k) / (bodyWidth k + 1)) 0
+countIn s q k = countFrom s k (sectionStart q k) (sectionStart q (k + 1))
 
 -- where entry i starts of those of kind k that start at `from`
 unfoldable pub placeOf : ℕ → ℕ → ℕ → ℕ
 placeOf k from i = from + i * (bodyWidth k + 1)
 
+-- its code
+unfoldable pub codeAt : Text → ℕ → ℕ → ℕ → Text
+codeAt s k from i = take (codeWidth k) (drop (placeOf k from i + 1) s)
+
 -- how its code stands to this one
 unfoldable pub orderAt : Text → ℕ → ℕ → Text → ℕ → Order
-orderAt s k from code i = orderOf (take (codeWidth k) (drop (placeOf k from i + 1) s)) code
+orderAt s k from code i = orderOf (codeAt s k from i) code
 
 unfoldable pub foundAt : ℕ → ℕ → ℕ → Found
 foundAt k from i = At (record { at = placeOf k from i })
-
--- neither text is longer than its width
-unfoldable pub fits : ℕ → Text → Text → Bool
-fits k a b = leb (length a) (firstWidth k) && leb (length b) (secondWidth k)
 
 -- the number below 32768 that is the hash of a code, from h on, at first its kind: by its bytes other than blanks, so the same with and
 -- without padding
 unfoldable pub hashOf : ℕ → Text → ℕ
 hashOf h [] = h
-hashOf h (b ∷ t) = cond (eqb b 32) (hashOf h t) (hashOf ((h * 31 + b) % 32768) t)
+hashOf h (b ∷ t) = cond (eqb b 32) (hashOf h t) (hashOf ((h * 37 + b) % 32768) t)
 
--- which entry of a kind the table after the last section names for a code: two bytes, the lower first; 0 for a byte that is not there
-unfoldable pub entryHashed : Text → Sections → ℕ → Text → ℕ
-entryHashed s q k code =
-    let table = drop (q .end) s in
+-- which entry of a kind the table from `end` on names for a code: two bytes, the lower first; 0 for a byte that is not there
+unfoldable pub entryHashed : Text → ℕ → ℕ → Text → ℕ
+entryHashed s end k code =
+    let table = drop end s in
     let at = hashOf k code * 2 in
     getD table at 0 + getD table (at + 1) 0 * 256
 
--- a place, if what stands there is what is sought
-unfoldable pub foundIf : Order → ℕ → Found
-foundIf o at = byOrder o Absent (At (record { at = at })) Absent
+-- where entry i is of the n of kind k that start at `from`, if there is one and it has the code
+unfoldable pub namedIn : Text → ℕ → ℕ → ℕ → Text → ℕ → Found
+namedIn s k from n code i = cond (ltb i n && same (codeAt s k from i) code) (foundAt k from i) Absent
 
--- where the entry that the hash names is, if there is one and it has the code
-unfoldable pub hashedIn : Text → Sections → ℕ → Text → Found
-hashedIn s q k code =
-    let i = entryHashed s q k code in
-    cond (ltb i (countIn s q k)) (foundIf (orderAt s k (sectionStart q k) code i) (placeOf k (sectionStart q k) i)) Absent
-
--- where an entry with the code is, by binary search
-unfoldable pub searchedIn : Text → Sections → ℕ → Text → Found
-searchedIn s q k code = binarySearch (orderAt s k (sectionStart q k) code) (foundAt k (sectionStart q k)) Absent (countIn s q k) 0 (countIn s q k)
+-- where one of them is that has the code, by binary search
+unfoldable pub searchedIn : Text → ℕ → ℕ → ℕ → Text → Found
+searchedIn s k from n code = binarySearch (orderAt s k from code) (foundAt k from) Absent n 0 n
 
 -- the first place, or the second where there is none
 abbrev pub elseFound : Found → Found → Found
 elseFound (At p) f = At p
 elseFound Absent f = f
 
--- where an entry with the code is, by hash and then by binary search
-unfoldable pub soughtIn : Text → Sections → ℕ → Text → Found
-soughtIn s q k code = elseFound (hashedIn s q k code) (searchedIn s q k code)
+-- where one of them is that has the code: entry i is asked first
+unfoldable pub soughtIn : Text → ℕ → ℕ → ℕ → Text → ℕ → Found
+soughtIn s k from n code i = elseFound (namedIn s k from n code i) (searchedIn s k from n code)
 
--- where the entry is that has this kind and code, of one text or of two
-unfoldable pub foundIn : Text → Sections → ℕ → Text → Text → Found
-foundIn s q k a b = cond (leb k 8 && fits k a b) (soughtIn s q k (codeText k a b)) Absent
+-- where the entry is that has this kind, and this code as the book writes it
+unfoldable pub foundIn : Text → Sections → ℕ → Text → Found
+foundIn s q k code =
+    cond (leb k 8 && eqb (length code) (codeWidth k)) (soughtIn s k (sectionStart q k) (countIn s q k) code (entryHashed s (q .end) k code)) Absent
 
--- a whole entry of a known kind starts these bytes, its start and end have their form, and it is in force on day d
-unfoldable pub inForceAt : ℕ → Text → Bool
-inForceAt d [] = false
-inForceAt d (k ∷ s) = isWhole k s && (datesForm k (datesOf (entryOf k s)) && inForce d (entryOf k s))
+abbrev pub isThere : Found → Bool
+isThere Absent = false
+isThere (At p) = true
 
-abbrev pub standingAt : Text → ℕ → Found → Standing
-standingAt s d Absent = Unknown
-standingAt s d (At p) = cond (inForceAt d (drop (p .at) s)) InForce OutOfForce
+-- the entry of kind k that was found is in force on day d
+abbrev pub isInForceAt : Text → ℕ → ℕ → Found → Bool
+isInForceAt s d k Absent = false
+isInForceAt s d k (At p) = inForce d (entryOf k (drop (p .at + 1) s))
 
--- what the book says of a code on a day
-unfoldable pub standingIn : Text → Sections → ℕ → Text → Text → ℕ → Standing
-standingIn s q k a b d = standingAt s d (foundIn s q k a b)
+-- the code is known
+unfoldable pub knownBy : Text → Sections → ℕ → Text → Bool
+knownBy s q k code = isThere (foundIn s q k code)
+
+-- the code is in force on day d
+unfoldable pub inForceBy : Text → Sections → ℕ → ℕ → Text → Bool
+inForceBy s q d k code = isInForceAt s d k (foundIn s q k code)
+
+-- what is said of a code on day d
+unfoldable pub standingBy : Text → Sections → ℕ → Text → ℕ → Standing
+standingBy s q k code d = cond (knownBy s q k code) (cond (inForceBy s q d k code) InForce OutOfForce) Unknown
 
 -- The hash table
 
 -- entry i of those of kind k that start at `from`, put into a table
 unfoldable pub hashEntry : Text → ℕ → ℕ → ℕ → Text → Text
 hashEntry s k from i t =
-    let at = hashOf k (take (codeWidth k) (drop (placeOf k from i + 1) s)) * 2 in
+    let at = hashOf k (codeAt s k from i) * 2 in
     set (set t at (i % 256)) (at + 1) (i / 256 % 256)
 
 -- the first n of them

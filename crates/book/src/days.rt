@@ -1,93 +1,74 @@
 // In force on a day: "start <= d <= end, or d <= end where there is no start"; and what a book says of a code on a day.
 use crate::Found;
-use crate::Position;
-use crate::Read;
 use crate::Sections;
 use crate::Standing;
+use crate::codes::eight_are;
 use crate::kinds::VACCINE;
-use crate::search::find;
+use crate::search::found;
 use crate::widths::code_width;
-use crate::widths::start_width;
 use dates::Date;
-use dates::Dated;
 ghost use mathlib.Core.Path.{_≡_};
-ghost use Prim.Native.Nat.{_+_};
-ghost use lib.ListN.{length, drop};
-ghost use Rattle.book.specs.Book.{startWidth, bodyWidth};
-ghost use Rattle.book.specs.LookUp.{inForceAt, standingIn};
-ghost use Rattle.book.specs.Inside.{startHolds, endHolds, datesHold, bodyHolds};
+ghost use Prim.Native.Nat.{_+_, _-_, _≤_};
+ghost use lib.ListN.{length, take, drop};
+ghost use Rattle.house.specs.Text.{number};
+ghost use Rattle.book.specs.Book.{bodyWidth, entryOf, inForce, codeText};
+ghost use Rattle.book.specs.LookUp.{standingBy};
 
-// Whether a start is a date and not after a day, where the kind has one.
-fn start_holds(k: u8, t: &[u8], day: u32) -> bool
-    ensures { λ r. ⌜ r ≡ startHolds day k (now (t .entry)) ⌝ }
+// What a byte counts as a digit.
+fn digit(b: u8) -> u32
+    ensures { λ r. ⌜ r ≡ b - 48 ⌝ }
+    ensures { λ r. ⌜ r ≤ 207 ⌝ }
 {
-    if k == VACCINE {
-        let d = Date::of(t);
-        match d {
-            Dated::Day(x) => x.number <= day,
-            Dated::NoDate => false,
-        }
+    if b < 48 { 0 } else { (b - 48) as u32 }
+}
+
+// The number that the eight digits at a place write.
+fn eight_digits(book: &[u8], at: usize) -> u32
+    requires { ⌜ at + 8 ≤ length (now book) ⌝ }
+    ensures { λ r. ⌜ r ≡ number (take 8 (drop at (now (book .entry)))) ⌝ }
+{
+    let a = digit(book[at]) * 10 + digit(book[at + 1]);
+    let b = (a * 10 + digit(book[at + 2])) * 10 + digit(book[at + 3]);
+    let c = (b * 10 + digit(book[at + 4])) * 10 + digit(book[at + 5]);
+    (c * 10 + digit(book[at + 6])) * 10 + digit(book[at + 7])
+}
+
+// The number that the end at a place writes. Most ends are open.
+fn end_number(book: &[u8], at: usize) -> u32
+    requires { ⌜ at + 8 ≤ length (now book) ⌝ }
+    ensures { λ r. ⌜ r ≡ number (take 8 (drop at (now (book .entry)))) ⌝ }
+{
+    if eight_are(book, at, 57) {
+        Date::OPEN
     } else {
-        true
+        eight_digits(book, at)
     }
 }
 
-// Whether an end has its form and is not before a day.
-fn end_holds(t: &[u8], day: u32) -> bool
-    ensures { λ r. ⌜ r ≡ endHolds day (now (t .entry)) ⌝ }
+// Whether the entry of a kind whose body starts at a place is in force on a day.
+fn in_force(book: &[u8], kind: u8, body: usize, day: u32) -> bool
+    requires { ⌜ body + bodyWidth kind ≤ length (now book) ⌝ }
+    ensures { λ r. ⌜ r ≡ inForce day (entryOf kind (drop body (now (book .entry)))) ⌝ }
 {
-    let d = Date::end_of(t);
-    match d {
-        Dated::Day(x) => day <= x.number,
-        Dated::NoDate => false,
-    }
-}
-
-// Whether the start and the end of an entry have their form and hold the day.
-fn dates_hold(k: u8, dates: &[u8], day: u32) -> bool
-    requires { ⌜ length (now dates) ≡ startWidth k + 8 ⌝ }
-    ensures { λ r. ⌜ r ≡ datesHold day k (now (dates .entry)) ⌝ }
-{
-    let a = start_width(k);
-    if start_holds(k, &dates[..a], day) {
-        end_holds(&dates[a..], day)
-    } else {
-        false
-    }
-}
-
-// Whether the dates of an entry's body have their form and hold the day.
-fn body_holds(k: u8, body: &[u8], day: u32) -> bool
-    requires { ⌜ length (now body) ≡ bodyWidth k ⌝ }
-    ensures { λ r. ⌜ r ≡ bodyHolds day k (now (body .entry)) ⌝ }
-{
-    let w = code_width(k);
-    dates_hold(k, &body[w..], day)
-}
-
-// Whether a whole entry stands at a position whose dates have their form, and it is in force on a day.
-pub fn in_force(book: &[u8], place: Position, day: u32) -> bool
-    ensures { λ r. ⌜ r ≡ inForceAt day (drop (place .at) (now (book .entry))) ⌝ }
-{
-    let e = place.read(book);
-    match e {
-        Read::Entry { kind, body, next } => {
-            let end = next.at;
-            body_holds(kind, &book[body..end], day)
+    let dates = body + code_width(kind);
+    if kind == VACCINE {
+        if day < eight_digits(book, dates) {
+            return false;
         }
-        Read::End => false,
-        Read::Malformed => false,
+        return day <= end_number(book, dates + 8);
     }
+    day <= end_number(book, dates)
 }
 
 // What a book says of a code, given as for find, on a day.
 pub fn look_up(book: &[u8], sections: Sections, kind: u8, a: &[u8], b: &[u8], day: u32) -> Standing
-    ensures { λ r. ⌜ r ≡ standingIn (now (book .entry)) sections kind (now (a .entry)) (now (b .entry)) day ⌝ }
+    ensures { λ r. ⌜ r ≡ standingBy (now (book .entry)) sections kind (codeText kind (now (a .entry)) (now (b .entry))) day ⌝ }
 {
-    let f = find(book, sections, kind, a, b);
+    let f = found(book, sections, kind, a, b);
     match f {
         Found::At(place) => {
-            if in_force(book, place, day) {
+            let body = place.at + 1;
+            if in_force(book, kind, body, day) {
                 Standing::InForce
             } else {
                 Standing::OutOfForce

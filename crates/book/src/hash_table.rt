@@ -1,15 +1,15 @@
 // The hash table after a book: for the hash of a code, which entry of its kind to ask first. In a valid book an entry that has another code costs
 // time and alters no answer.
+use crate::Layout;
 use crate::Sections;
-use crate::search::Widths;
-use crate::search::section_count;
-use crate::search::widths_of;
+use crate::layouts::count_of;
 ghost use mathlib.Core.Path.{_≡_};
 ghost use mathlib.Core.List.{_++_};
 ghost use Prim.Native.Nat.{_<_, _≤_, _+_, _-_, _*_};
 ghost use lib.ListN.{length, drop, set, getD};
-ghost use Rattle.book.specs.Book.{firstWidth, secondWidth, bodyWidth, codeText};
+ghost use Rattle.book.specs.Book.{codeText};
 ghost use Rattle.book.specs.LookUp.{hashOf, entryHashed, hashEntry, hashKind, hashKinds, withHashTable};
+ghost use Rattle.book.specs.Inside.{WidthsAre};
 
 // A byte, as a number to reckon with.
 fn value(b: u8) -> usize
@@ -30,7 +30,7 @@ fn hash(from: usize, text: &[u8]) -> usize
     while i < text.len() {
         let b = text[i];
         if b != 32 {
-            h = (h * 31 + value(b)) % 32768;
+            h = (h * 37 + value(b)) % 32768;
             i += 1;
             continue;
         }
@@ -40,7 +40,7 @@ fn hash(from: usize, text: &[u8]) -> usize
 }
 
 // The byte of a table at a place, 0 past its end.
-fn byte_at(table: &[u8], at: usize) -> usize
+fn last_byte(table: &[u8], at: usize) -> usize
     ensures { λ r. ⌜ r ≡ getD (now (table .entry)) at 0 ⌝ }
     ensures { λ r. ⌜ r < 256 ⌝ }
 {
@@ -51,18 +51,22 @@ fn byte_at(table: &[u8], at: usize) -> usize
     }
 }
 
-// Which entry of a kind the table after a book names for a code, given as for find.
-pub(crate) fn hashed(book: &[u8], sections: Sections, k: u8, a: &[u8], b: &[u8]) -> usize
-    ensures { λ r. ⌜ r ≡ entryHashed (now (book .entry)) sections k (codeText k (now (a .entry)) (now (b .entry))) ⌝ }
+// Which entry of a kind the table from `end` on names for a code, given as for find.
+pub(crate) fn hashed(book: &[u8], end: usize, k: u8, a: &[u8], b: &[u8]) -> usize
+    ensures { λ r. ⌜ r ≡ entryHashed (now (book .entry)) end k (codeText k (now (a .entry)) (now (b .entry))) ⌝ }
+    ensures { λ r. ⌜ r < 65536 ⌝ }
 {
-    let end = sections.end;
     if book.len() < end {
         return 0;
     }
     let first = hash(value(k), a);
     let at = hash(first, b) * 2;
     let table = &book[end..];
-    byte_at(table, at) + byte_at(table, at + 1) * 256
+    if at + 1 < table.len() {
+        value(table[at]) + value(table[at + 1]) * 256
+    } else {
+        last_byte(table, at)
+    }
 }
 
 // Writes a byte into a table, if there is room for it.
@@ -74,17 +78,14 @@ fn put_byte(table: &mut [u8], at: usize, b: u8)
     }
 }
 
-// Hashes entry i of those of these widths and of kind k that start at `from`, of which there are n.
-fn hash_entry(book: &[u8], k: u8, from: usize, n: usize, i: usize, w: Widths, table: &mut [u8])
+// Hashes entry i of those of kind k that are laid out so, of which there are n.
+fn hash_entry(book: &[u8], k: u8, w: Layout, n: usize, i: usize, table: &mut [u8])
     requires { ⌜ i < n ⌝ }
-    requires { ⌜ n * w .entry ≤ length (now book) - from ⌝ }
-    requires { ⌜ w .first + w .second < w .entry ⌝ }
-    requires { ⌜ w .entry ≡ bodyWidth k + 1 ⌝ }
-    requires { ⌜ w .first ≡ firstWidth k ⌝ }
-    requires { ⌜ w .second ≡ secondWidth k ⌝ }
-    ensures { λ _. ⌜ now (table .exit) ≡ hashEntry (now (book .entry)) k from i (now (table .entry)) ⌝ }
+    requires { ⌜ n * w .entry ≤ length (now book) - w .from ⌝ }
+    requires { ⌜ WidthsAre k w ⌝ }
+    ensures { λ _. ⌜ now (table .exit) ≡ hashEntry (now (book .entry)) k (w .from) i (now (table .entry)) ⌝ }
 {
-    let code = from + i * w.entry + 1;
+    let code = w.from + i * w.entry + 1;
     let end = code + w.first + w.second;
     let at = hash(value(k), &book[code..end]) * 2;
     put_byte(table, at, (i % 256) as u8);
@@ -96,12 +97,11 @@ fn hash_entries(book: &[u8], sections: Sections, k: u8, table: &mut [u8])
     requires { ⌜ k ≤ 8 ⌝ }
     ensures { λ _. ⌜ now (table .exit) ≡ hashKind (now (book .entry)) sections k (now (table .entry)) ⌝ }
 {
-    let from = sections.start(k);
-    let w = widths_of(k);
-    let n = section_count(book, sections, k, w.entry);
+    let w = sections.layout_of(k);
+    let n = count_of(book, w, k);
     let mut i = 0;
     while i < n {
-        hash_entry(book, k, from, n, i, w, table);
+        hash_entry(book, k, w, n, i, table);
         i += 1;
     }
 }

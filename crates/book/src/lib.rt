@@ -1,14 +1,15 @@
 // The code book: a reader of its entries, whether it is well formed, and what it says of a code on a day.
+mod codes;
 mod days;
 mod forms;
 mod hash_table;
 mod kinds;
+mod layouts;
 mod reader;
 mod search;
 mod well_formed;
 mod widths;
 
-pub use days::in_force;
 pub use days::look_up;
 pub use hash_table::hash_book;
 pub use kinds::ANTIGEN;
@@ -48,6 +49,15 @@ pub struct Sections {
     with_reason: usize,
     with_antigen: usize,
     end: usize,
+}
+
+// Where the entries of a kind lie, and the bytes of a code or the first of two, of the second, and of a whole entry.
+pub(crate) struct Layout {
+    pub(crate) from: usize,
+    pub(crate) to: usize,
+    pub(crate) first: usize,
+    pub(crate) second: usize,
+    pub(crate) entry: usize,
 }
 
 // Whether a book is well formed; if so, with its sections.

@@ -6,7 +6,7 @@ use Prim.Native.Nat.{ℕ}
 use lib.ListN.{length}
 use Rattle.house.specs.declared.Order.{Order}
 use Rattle.house.specs.declared.Key.{Key}
-use Rattle.house.specs.Text.{Text, orderOf, below, same, pad, isPadded, digits}
+use Rattle.house.specs.Text.{Text, all, within, orderOf, below, same, pad, isPadded, digits}
 use Rattle.house.specs.Key.{keyOf}
 use Rattle.house.specs.Numbers.{numberAt}
 
@@ -36,3 +36,9 @@ key-of-one u d v x y p q = ap (λ (b : Text). record { bytes = b }) (p ∙ sym q
 
 pub number-at-one : (s : Text) (at x y : ℕ) → x ≡ numberAt s at → y ≡ numberAt s at → x ≡ y
 number-at-one s at x y p q = cc
+
+pub all-within-one : (lo hi : ℕ) (t : Text) (x y : Bool) → x ≡ all (within lo hi) t → y ≡ all (within lo hi) t → x ≡ y
+all-within-one lo hi t x y p q = cc
+
+pub wide-one : (p x y : ℕ) → x ≡ p → y ≡ p → x ≡ y
+wide-one p x y e f = cc

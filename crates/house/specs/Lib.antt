@@ -5,3 +5,4 @@ pub mod Members
 pub mod Search
 pub mod Key
 pub mod Numbers
+pub mod Inside

@@ -4,8 +4,15 @@ ghost use Prim.Native.Nat.{_+_, _≤_};
 ghost use lib.ListN.{length};
 ghost use Rattle.house.specs.Numbers.{fourBytes, numberAt};
 
+// A number of four bytes, as a position.
+pub fn wide(p: u32) -> usize
+    ensures { λ r. ⌜ r ≡ p ⌝ }
+{
+    p as usize
+}
+
 // A byte as a number.
-fn wide(b: u8) -> usize
+fn byte(b: u8) -> usize
     ensures { λ r. ⌜ r ≡ b ⌝ }
     ensures { λ r. ⌜ r ≤ 255 ⌝ }
 {
@@ -18,10 +25,10 @@ fn four_bytes(s: &[u8], at: usize) -> usize
     ensures { λ r. ⌜ r ≡ fourBytes (now (s .entry)) at ⌝ }
     ensures { λ r. ⌜ r ≤ 4294967295 ⌝ }
 {
-    let a = wide(s[at]);
-    let b = wide(s[at + 1]);
-    let c = wide(s[at + 2]);
-    let d = wide(s[at + 3]);
+    let a = byte(s[at]);
+    let b = byte(s[at + 1]);
+    let c = byte(s[at + 2]);
+    let d = byte(s[at + 3]);
     a + 256 * b + 65536 * c + 16777216 * d
 }
 

@@ -1,11 +1,11 @@
-// Texts: the order of bytes, padded codes, digits.
+// Texts: the order of bytes and of padded codes, digits.
 use crate::Order;
 ghost use mathlib.Core.Path.{_≡_};
 ghost use mathlib.Core.Logic.{_⊎_};
 ghost use mathlib.Core.List.{[]};
 ghost use Prim.Native.Nat.{_≤_};
 ghost use lib.ListN.{length, drop, getD};
-ghost use Rattle.house.specs.Text.{all, isBlank, digits, graphicLen, isPadded, pad, orderOf, below, same};
+ghost use Rattle.house.specs.Text.{digits, pad, orderOf, below, same};
 
 // The lesser of two numbers.
 fn lesser(m: usize, n: usize) -> usize
@@ -159,49 +159,6 @@ pub fn compare_pads(w: usize, a: &[u8], b: &[u8]) -> Order
         i += 1;
     }
     pads_from(w, a, b, i)
-}
-
-// How many bytes in 33..126 a text starts with.
-fn graphic_len(text: &[u8]) -> usize
-    ensures { λ r. ⌜ r ≡ graphicLen (now (text .entry)) ⌝ }
-{
-    let mut i = 0;
-    while i < text.len() {
-        let b = text[i];
-        if b < 33 {
-            return i;
-        }
-        if 126 < b {
-            return i;
-        }
-        i += 1;
-    }
-    i
-}
-
-// Whether there are only blanks from a place on.
-fn blanks_from(text: &[u8], at: usize) -> bool
-    ensures { λ r. ⌜ r ≡ all isBlank (drop at (now (text .entry))) ⌝ }
-{
-    let mut i = at;
-    while i < text.len() {
-        if text[i] != 32 {
-            return false;
-        }
-        i += 1;
-    }
-    true
-}
-
-// Whether a text is a padded code of its width: one byte in 33..126 or more, then blanks.
-pub fn is_padded(text: &[u8]) -> bool
-    ensures { λ r. ⌜ r ≡ isPadded (now (text .entry)) ⌝ }
-{
-    let n = graphic_len(text);
-    if n == 0 {
-        return false;
-    }
-    blanks_from(text, n)
 }
 
 // Whether each byte is a digit.

@@ -7,7 +7,7 @@ use Rattle.house.specs.Text.{Text, those, same}
 use Rattle.house.proofs.Decisions.{is-same, not-same, below-irrefl}
 use Rattle.lines_places.specs.Inside.{Lt, Over}
 use Rattle.ledger.specs.Ledger.{isAmong, less}
-use Rattle.ledger.specs.Inside.{whole}
+use Rattle.ledger.specs.Updates.{whole}
 
 -- what stands above another is not the same
 pub above-differs : (x y : Text) → Lt y x → same x y ≡ false

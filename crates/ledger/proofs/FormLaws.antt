@@ -1,20 +1,20 @@
 -- What each need of the functions that test a ledger's form asks.
 -- Assumes nothing.
-use mathlib.Core.Path.{_≡_, refl, sym, ap, _∙_}
+use mathlib.Core.Path.{_≡_, refl, sym, ap, ap₂, _∙_}
 use mathlib.Core.Bool.{Bool, true, false, cond, _&&_}
 use mathlib.Core.List.{List, [], _∷_}
 use Prim.Native.Nat.{ℕ, _+_, _/_, _%_, _≤_, _<_}
 use native.Mathlib.Numerals.{add-one}
 use native.Mathlib.Omega.{arith}
 use borrow.Author.Needs.{needs}
-use borrow.Author.Tests.{eq-eqb, ne-eqb, le-leb, lt-leb}
-use lib.Dec.{eqb}
+use borrow.Author.Tests.{eq-eqb, ne-eqb, eqb-true, eqb-false, le-leb, lt-leb}
+use lib.Dec.{eqb, leb}
 use lib.ListN.{length, take, drop, getD, length-drop, length-map, drop-of-length-le}
 use lib.Seq.{drop-cons, length-take-le, take-all}
 use Rattle.dates.specs.declared.Date.{Date}
 use Rattle.dates.specs.declared.Dated.{Dated}
 use Rattle.dates.specs.declared.Dated.the-variants.{Day, NoDate}
-use Rattle.house.specs.Text.{Text, all, those, adjacent, chained, below, run, digits, isPadded}
+use Rattle.house.specs.Text.{Text, all, those, adjacent, chained, below, within, run, digits, isPadded}
 use Rattle.dates.specs.Dates.{datedOf}
 use Rattle.house.proofs.Suffix.{drop-here, drop-past}
 use Rattle.dates.proofs.DateLaws.{dated-true, dated-false}
@@ -55,23 +55,25 @@ live-slot t = refl
 pub ruleset for-live-slot = (needs, live-slot)
 
 -- is_free_slot
-pub free-start : (t : Text) → isFreeSlot t ≡ isFreeSlot (drop 0 t)
-free-start t = refl
+zero-within : (b : ℕ) → within 0 0 b ≡ eqb b 0
+zero-within b = go (eqb b 0) refl
+  where
+    go : (u : Bool) → eqb b 0 ≡ u → (leb 0 b && leb b 0) ≡ u
+    go true e = let h : b ≡ 0 = eqb-true b 0 e in rw (le-leb 0 b (omega arith), le-leb b 0 (omega arith))
+    go false e = rw (le-leb 0 b (omega arith), lt-leb b 0 (positive b (eqb-false b 0 e)))
+      where
+        positive : (n : ℕ) → (n ≡ 0 → ⊥) → 0 < n
+        positive n f = omega arith
 
-module _ (t : Text) (i : ℕ) (x : Bool) (inv : x ≡ isFreeSlot (drop i t)) where
-  pub free-not : i < length t → (getD t i 0 ≡ 0 → ⊥) → false ≡ x
-  unfolding isFreeSlot
-  free-not h n = rw (inv, drop-here t i h, ne-eqb _ _ n)
+pub free-is : (t : Text) (r : Bool) → r ≡ all (within 0 0) t → r ≡ isFreeSlot t
+unfolding isFreeSlot
+free-is t r e = e ∙ go t
+  where
+    go : (s : Text) → all (within 0 0) s ≡ all (λ (b : ℕ). eqb b 0) s
+    go [] = refl
+    go (b ∷ s) = ap₂ _&&_ (zero-within b) (go s)
 
-  pub free-on : i < length t → getD t i 0 ≡ 0 → x ≡ isFreeSlot (drop (i + 1) t)
-  unfolding isFreeSlot
-  free-on h e = rw (inv, drop-here t i h, eq-eqb _ _ e)
-
-  pub free-end : length t ≤ i → true ≡ x
-  unfolding isFreeSlot
-  free-end h = rw (inv, drop-past t i h)
-
-pub ruleset for-free-slot = (needs, free-start, free-not, free-on, free-end)
+pub ruleset for-free-slot = (needs, free-is)
 
 -- has_form
 module _ (t : Text) (g : Bool) (p : g ≡ isLiveSlot t) where
@@ -112,48 +114,6 @@ module _ (s t : Text) (g : Bool) (p : g ≡ isLiveSlot t) where
     follow-live r e w = rw (← p, f, ← q, e) w
 
 pub ruleset for-may-follow = (needs, follow-free, follow-not, follow-live)
-
--- in_order
-module _ (s : Text) (i : ℕ) (x : Bool) (inv : x ≡ adjacent slotFollows (drop i (slots s))) where
-  module _ (h : i + 1 < length s / 38) (t u : Text) (e : t ≡ getD (slots s) i []) (f : u ≡ getD (slots s) (i + 1) []) (r : Bool) (q : r ≡ slotFollows t u) where
-    two : drop i (slots s) ≡ t ∷ (u ∷ drop (i + 1 + 1) (slots s))
-    two = slots-here s i (omega arith) ∙ ap (λ (l : List Text). getD (slots s) i [] ∷ l) (slots-here s (i + 1) h) ∙ rw (e, f)
-
-    one : drop (i + 1) (slots s) ≡ u ∷ drop (i + 1 + 1) (slots s)
-    one = slots-here s (i + 1) h ∙ rw f
-
-    pub order-on : r ≡ true → x ≡ adjacent slotFollows (drop (i + 1) (slots s))
-    order-on z = rw (inv, two, one, ← q, z)
-
-    pub order-not : r ≡ false → false ≡ x
-    order-not z = rw (inv, two, ← q, z)
-
-  pub order-end : length s / 38 ≤ i + 1 → true ≡ x
-  order-end h = rw inv (go (drop i (slots s)) (omega (arith, length-drop i (slots s), length-slots s)))
-    where
-      go : (ts : List Text) → length ts ≤ 1 → true ≡ adjacent slotFollows ts
-      go [] k = refl
-      go (t ∷ []) k = refl
-      go (t ∷ (u ∷ ts)) k = absurd (omega arith)
-
-pub ruleset for-in-order = (needs, order-on, order-not, order-end)
-
--- count_live
-pub count-start : (s : Text) → length (those isLiveSlot (slots s)) ≡ 0 + length (those isLiveSlot (drop 0 (slots s)))
-count-start s = omega arith
-
-module _ (s : Text) (i n x : ℕ) (inv : x ≡ n + length (those isLiveSlot (drop i (slots s)))) where
-  module _ (h : i < length s / 38) (t : Text) (e : t ≡ getD (slots s) i []) (r : Bool) (q : r ≡ isLiveSlot t) where
-    pub count-live : r ≡ true → x ≡ n + 1 + length (those isLiveSlot (drop (i + 1) (slots s)))
-    count-live f = rw (inv, slots-here s i h, ← e, ← q, f) (omega arith)
-
-    pub count-free : r ≡ false → x ≡ n + length (those isLiveSlot (drop (i + 1) (slots s)))
-    count-free f = rw (inv, slots-here s i h, ← e, ← q, f)
-
-  pub count-end : length s / 38 ≤ i → n ≡ x
-  count-end h = rw (inv, slots-past s i h) (omega arith)
-
-pub ruleset for-count-live = (needs, count-start, count-live, count-free, count-end)
 
 -- is_sound_at
 module _ (s : Text) (i : ℕ) (t : Text) (e : t ≡ getD (slots s) i []) (g : Bool) (p : g ≡ slotForm t) where

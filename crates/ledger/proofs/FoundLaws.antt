@@ -21,7 +21,7 @@ use Rattle.lines_places.specs.Inside.{Lt, Asc}
 use Rattle.lines_places.proofs.Ranks.{order, le-lt-trans}
 use Rattle.lines_places.proofs.Order.{all-at}
 use Rattle.ledger.specs.Ledger.{slotsIn, slots, isLiveSlot, slotForm, slotFollows, ledgerOk, liveIn, isAmong, liveSlot, eventIn, slotsAsked, foundIn}
-use Rattle.ledger.specs.Inside.{whole}
+use Rattle.ledger.specs.Updates.{whole}
 use Rattle.ledger.proofs.SlotLaws.{length-slots}
 use Rattle.ledger.proofs.LiveLaws.{in-order, live-slots, live-asc}
 

@@ -5,6 +5,7 @@ pub mod WriteLaws
 pub mod AmongLaws
 pub mod GapLaws
 pub mod BackLaws
+pub mod FitLaws
 pub mod LiveLaws
 pub mod FoundLaws
 pub mod SizeLaws

@@ -15,7 +15,7 @@ use Rattle.lines_places.specs.Inside.{Lt, Over, Asc}
 use Rattle.lines_places.proofs.Order.{over-down}
 use Rattle.lines_places.proofs.SortedLaws.{ascends-asc}
 use Rattle.ledger.specs.Ledger.{isLiveSlot, slotFollows, isAmong, putInOrder, plus, less, liveSlot}
-use Rattle.ledger.specs.Inside.{whole}
+use Rattle.ledger.specs.Updates.{whole}
 use Rattle.ledger.proofs.WellFormedLaws.{live-slot}
 
 -- events that ascend

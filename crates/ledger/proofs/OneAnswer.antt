@@ -6,7 +6,8 @@ use mathlib.Core.List.{List}
 use Prim.Native.Nat.{ℕ}
 use Rattle.house.specs.Text.{Text}
 use Rattle.ledger.specs.declared.Validity.{Validity}
-use Rattle.ledger.specs.Ledger.{validOf, foundIn, isFit, updated}
+use Rattle.ledger.specs.Ledger.{validOf, foundIn}
+use Rattle.ledger.specs.Updates.{updated}
 
 one : {A : Type 0} {x r q : A} → r ≡ x → q ≡ x → r ≡ q
 one e f = e ∙ sym f
@@ -17,6 +18,6 @@ valid s r q = one
 is-live : (s : Text) (n : ℕ) (k : Text) (r q : Bool) → r ≡ foundIn s n k → q ≡ foundIn s n k → r ≡ q
 is-live s n k r q = one
 
--- the answer, and the ledger left
-update : (s f : Text) (gs ds : List ℕ) (r q : Bool) (x y : Text) → (r ≡ isFit s f gs ds) × (x ≡ updated s f gs ds) → (q ≡ isFit s f gs ds) × (y ≡ updated s f gs ds) → (r ≡ q) × (x ≡ y)
-update s f gs ds r q x y e g = (one (e .0) (g .0), one (e .1) (g .1))
+-- the ledger left
+update : (s : Text) (n : ℕ) (f : Text) (gs ds : List ℕ) (x y : Text) → x ≡ updated s n f gs ds → y ≡ updated s n f gs ds → x ≡ y
+update s n f gs ds x y = one

@@ -11,7 +11,7 @@ use Rattle.house.proofs.Decisions.{same-true, same-sym}
 use Rattle.lines_places.specs.Inside.{Over, Asc}
 use Rattle.lines_places.proofs.Order.{length-place}
 use Rattle.ledger.specs.Ledger.{isAmong, less, eventsAfter}
-use Rattle.ledger.specs.Inside.{whole}
+use Rattle.ledger.specs.Updates.{whole}
 use Rattle.ledger.proofs.AmongLaws.{below-differs, among-none}
 use Rattle.ledger.proofs.LiveLaws.{plus-place}
 

@@ -1,127 +1,89 @@
--- What each need of the functions that test and make an update asks.
+-- What each need of the function that makes an update asks, and what an update leaves of a well-formed ledger.
 -- Assumes nothing.
-use mathlib.Core.Path.{_≡_, refl, sym, ap, _∙_, subst}
-use mathlib.Core.Bool.{Bool, true, false, not, cond, _&&_, _||_}
+use mathlib.Core.Path.{_≡_, refl, sym, ap, ap₂, _∙_, subst}
+use mathlib.Core.Bool.{Bool, true, false, not, cond, _||_}
 use mathlib.Core.List.{List, [], _∷_, _++_, map}
-use Prim.Native.Nat.{ℕ, zero, suc, _+_, _*_, _-_, _/_, _%_, _≤_, _<_}
-use native.Mathlib.Nat.{not-suc-le-zero, le-of-suc-le-suc}
+use Prim.Native.Nat.{ℕ, zero, suc, _+_, _*_, _-_, _/_, _≤_, _<_}
+use native.Mathlib.Nat.{add-zero, not-suc-le-zero, le-of-suc-le-suc}
 use native.Mathlib.Omega.{arith}
 use borrow.Author.Needs.{needs}
-use borrow.Author.Tests.{eq-eqb, ne-eqb, le-leb, leb-true, leb-false}
-use lib.Dec.{eqb, leb}
-use lib.ListN.{length, take, drop, getD, replicate, length-map}
-use lib.Seq.{take-at, take-add}
-use Rattle.house.specs.Text.{Text, those, howMany, adjacent, joined, below, same}
-use Rattle.house.proofs.Small.{both}
-use Rattle.house.proofs.Suffix.{drop-here, drop-past}
+use borrow.Author.Tests.{le-leb, lt-leb}
+use lib.Dec.{leb}
+use lib.ListN.{length, take, drop, getD, replicate, length-map, length-append, take-append-drop}
+use lib.Seq.{take-at, take-add, take-all, take-take, getD-take, length-take-le}
+use Rattle.house.specs.Text.{Text, those, howMany, joined, below, same}
 use Rattle.lines_places.specs.Events.{eventAt, eventsAt, ascends}
 use Rattle.lines_places.specs.Sorted.{putIn, place}
 use Rattle.lines_places.specs.Inside.{Asc, Up}
 use Rattle.lines_places.proofs.Order.{up-asc, asc-those, length-place, place-sorted}
 use Rattle.lines_places.proofs.SortedLaws.{keys-placed}
-use Rattle.ledger.specs.Ledger.{slotsIn, chop, slots, isLiveSlot, slotFollows, ledgerOk, liveIn, isAmong, foundIn, plus, less, eventsAfter, liveSlot, ledgerWith, isFit, updated}
-use Rattle.ledger.specs.Inside.{whole, slotsFor, hasRoom, Fit}
+use Rattle.ledger.specs.Ledger.{slotsIn, chop, slots, isLiveSlot, ledgerOk, liveIn, isAmong, slotsAsked, plus, less, eventsAfter, liveSlot, ledgerWith}
+use Rattle.ledger.specs.Updates.{whole, slotsFor, without, putAfter, mergedUpTo, keptIn, roomed, merged, filled, updated}
+use Rattle.ledger.specs.Inside.{Fit}
+use Rattle.ledger.proofs.SlotLaws.{length-slots}
 use Rattle.ledger.proofs.BackLaws.{length-for}
+use Rattle.ledger.proofs.FitLaws.{without-less, merged-placed}
 use Rattle.ledger.proofs.LiveLaws.{events-asc, asc-live, less-live, place-live, plus-place, joined-live}
-use Rattle.ledger.proofs.FoundLaws.{live-length, live-first, live-up, found-among, ok-whole, ok-order}
+use Rattle.ledger.proofs.FoundLaws.{live-length, live-fits, live-first, live-up, ok-order}
+use Rattle.ledger.proofs.LookLaws.{asked-all}
 use Rattle.ledger.proofs.SizeLaws.{after-length}
 
--- is_listed_live
-pub listed-found : (l f : Text) (live x p : ℕ) (k : Text) (r : Bool) → p ≡ x → k ≡ eventAt f p → r ≡ foundIn l live k → r ≡ foundIn l live (eventAt f x)
-listed-found l f live x p k r e a b = b ∙ ap (foundIn l live) (a ∙ ap (eventAt f) e)
+-- merge_roomed
+module _ (l : Text) (n : ℕ) (gs : List ℕ) where
+  pub room-there : n + length gs ≤ length l / 38 → gs ≡ roomed l n gs
+  unfolding roomed slotsIn
+  room-there h = rw (le-leb (n + length gs) (length l / 38) h)
 
-pub ruleset for-is-listed-live = (needs, listed-found)
+  pub room-none : length l / 38 < n + length gs → [] ≡ roomed l n gs
+  unfolding roomed slotsIn
+  room-none h = rw (lt-leb (n + length gs) (length l / 38) h)
 
--- count_listed
-module _ (l f : Text) (live : ℕ) (ps : List ℕ) (i n x : ℕ) (inv : x ≡ n + howMany (foundIn l live) (eventsAt f (drop i ps))) where
-  module _ (h : i < length ps) (r : Bool) (er : r ≡ foundIn l live (eventAt f (getD ps i 0))) where
-    pub listed-live : r ≡ true → x ≡ n + 1 + howMany (foundIn l live) (eventsAt f (drop (i + 1) ps))
-    unfolding eventsAt
-    listed-live z = rw (inv, drop-here ps i h, ← er, z) (omega arith)
+  pub roomed-count : (r : ℕ) → n + length gs ≤ length l / 38 → r ≡ n + length gs → r ≡ n + length (roomed l n gs)
+  roomed-count r h e = e ∙ ap (λ (ps : List ℕ). n + length ps) (room-there h)
 
-    pub listed-not : r ≡ false → x ≡ n + howMany (foundIn l live) (eventsAt f (drop (i + 1) ps))
-    unfolding eventsAt
-    listed-not z = rw (inv, drop-here ps i h, ← er, z)
+  pub unroomed-count : length l / 38 < n + length gs → n ≡ n + length (roomed l n gs)
+  unroomed-count h = rw (← room-none h) (omega arith)
 
-  pub listed-end : length ps ≤ i → n ≡ x
-  unfolding eventsAt
-  listed-end h = rw (inv, drop-past ps i h) (omega arith)
+  module _ (f : Text) where
+    pub roomed-slots : (m : Text) → n + length gs ≤ length l / 38
+        → slots m ≡ mergedUpTo (slots l) (slotsFor f gs) (length gs) n ++ drop (n + length gs) (slots l)
+        → slots m ≡ mergedUpTo (slots l) (slotsFor f (roomed l n gs)) (length (roomed l n gs)) n ++ drop (n + length (roomed l n gs)) (slots l)
+    roomed-slots m h e = e ∙ ap (λ (ps : List ℕ). mergedUpTo (slots l) (slotsFor f ps) (length ps) n ++ drop (n + length ps) (slots l)) (room-there h)
 
-pub listed-start : (l f : Text) (live : ℕ) (ps : List ℕ) → howMany (foundIn l live) (eventsAt f ps) ≡ 0 + howMany (foundIn l live) (eventsAt f (drop 0 ps))
-listed-start l f live ps = omega arith
+    pub unroomed-slots : length l / 38 < n + length gs
+        → slots l ≡ mergedUpTo (slots l) (slotsFor f (roomed l n gs)) (length (roomed l n gs)) n ++ drop (n + length (roomed l n gs)) (slots l)
+    unfolding mergedUpTo
+    unroomed-slots h = rw (← room-none h, add-zero) (sym (take-append-drop n (slots l)))
 
-pub ruleset for-count-listed = (needs, listed-live, listed-not, listed-end)
+pub ruleset for-merge-roomed = (needs, roomed-count, unroomed-count, roomed-slots, unroomed-slots)
 
--- has_room
-pub room-is : (l f : Text) (gs ds : List ℕ) (live gone : ℕ) → live ≡ length (those isLiveSlot (slots l)) → gone ≡ howMany (foundIn l live) (eventsAt f ds)
-    → leb (live + length gs) (length l / 38 + gone) ≡ hasRoom l f gs ds
-unfolding hasRoom
-room-is l f gs ds live gone p q = rw (← p, ← q)
+-- the merge goes by the first slots alone, and has as many as both
+module _ (added : List Text) where
+  put-cut : (n : ℕ) (ss : List Text) (a : Text) (p q : ℕ → List Text) → ((i : ℕ) → i ≤ n → p i ≡ q i) → (i : ℕ) → i ≤ n → putAfter (take n ss) a p i ≡ putAfter ss a q i
+  unfolding putAfter
+  put-cut n ss a p q e zero h = ap (λ (l : List Text). l ++ (a ∷ [])) (e zero h)
+  put-cut n ss a p q e (suc i) h = rw (getD-take n ss i [] (omega arith), e (suc i) h, put-cut n ss a p q e i (omega arith))
 
-pub room-more : (l f : Text) (gs ds : List ℕ) (live : ℕ) → live ≡ length (those isLiveSlot (slots l)) → live + length gs ≤ length l / 38 → true ≡ hasRoom l f gs ds
-unfolding hasRoom
-room-more l f gs ds live p h = rw (← p) (sym (le-leb (live + length gs) (length l / 38 + howMany (foundIn l live) (eventsAt f ds)) (omega arith)))
+  merged-cut : (n : ℕ) (ss : List Text) (j i : ℕ) → i ≤ n → mergedUpTo (take n ss) added j i ≡ mergedUpTo ss added j i
+  unfolding mergedUpTo
+  merged-cut n ss zero i h = take-take i n ss h
+  merged-cut n ss (suc j) i h = put-cut n ss (getD added j []) (mergedUpTo (take n ss) added j) (mergedUpTo ss added j) (merged-cut n ss j) i h
 
-pub ruleset for-has-room = (needs, room-is, room-more)
+  put-length : (ss : List Text) (a : Text) (j : ℕ) (p : ℕ → List Text) → ((i : ℕ) → i ≤ length ss → length (p i) ≡ i + j) → (i : ℕ) → i ≤ length ss → length (putAfter ss a p i) ≡ suc (i + j)
+  unfolding putAfter
+  put-length ss a j p e zero h = omega (arith, length-append (p zero) (a ∷ []), e zero h)
+  put-length ss a j p e (suc i) h = go (below (getD ss i []) a) (put-length ss a j p e i (omega arith))
+    where
+      go : (b : Bool) → length (putAfter ss a p i) ≡ suc (i + j) → length (cond b (p (suc i) ++ (a ∷ [])) (putAfter ss a p i ++ (getD ss i [] ∷ []))) ≡ suc (suc i + j)
+      go true r = omega (arith, length-append (p (suc i)) (a ∷ []), e (suc i) h)
+      go false r = omega (arith, length-append (putAfter ss a p i) (getD ss i [] ∷ []))
 
--- is_fit
-count-same : {A : Type 0} (p q : A → Bool) (xs : List A) → ((x : A) → p x ≡ q x) → howMany p xs ≡ howMany q xs
-count-same p q [] h = refl
-count-same p q (x ∷ xs) h = rw (h x, count-same p q xs h)
+  merged-length : (ss : List Text) (j i : ℕ) → i ≤ length ss → length (mergedUpTo ss added j i) ≡ i + j
+  unfolding mergedUpTo
+  merged-length ss zero i h = omega (arith, length-take-le i ss h)
+  merged-length ss (suc j) i h = omega (arith, put-length ss (getD added j []) j (mergedUpTo ss added j) (merged-length ss j) i h)
 
-leb-same : (a b c d : ℕ) → (a ≤ b → c ≤ d) → (c ≤ d → a ≤ b) → leb a b ≡ leb c d
-leb-same a b c d f g = go (leb a b) refl (leb c d) refl
-  where
-    go : (u : Bool) → leb a b ≡ u → (v : Bool) → leb c d ≡ v → u ≡ v
-    go true e true k = refl
-    go true e false k = absurd (omega (arith, f (leb-true a b e), leb-false c d k))
-    go false e true k = absurd (omega (arith, g (leb-true c d k), leb-false a b e))
-    go false e false k = refl
-
-length-at : (f : Text) (gs : List ℕ) → length (eventsAt f gs) ≡ length gs
-unfolding eventsAt
-length-at f gs = length-map gs (eventAt f)
-
--- the test of room is whether what is live after has room
-room-after : (l f : Text) (gs ds : List ℕ) → adjacent slotFollows (slots l) ≡ true → ascends (eventsAt f ds) ≡ true
-    → hasRoom l f gs ds ≡ leb (length (eventsAfter (liveIn l) (eventsAt f gs) (eventsAt f ds))) (slotsIn l)
-unfolding hasRoom slotsIn
-room-after l f gs ds o d =
-    let n : length (liveIn l) ≡ length (those isLiveSlot (slots l)) = live-length l o in
-    let c : howMany (foundIn l (length (those isLiveSlot (slots l)))) (eventsAt f ds) ≡ howMany (isAmong (liveIn l)) (eventsAt f ds) =
-    count-same (foundIn l (length (those isLiveSlot (slots l)))) (isAmong (liveIn l)) (eventsAt f ds) (λ e. found-among l o e (length (those isLiveSlot (slots l))) (sym n)) in
-    let a : length (eventsAfter (liveIn l) (eventsAt f gs) (eventsAt f ds)) + howMany (isAmong (liveIn l)) (eventsAt f ds) ≡ length (liveIn l) + length (eventsAt f gs) =
-    after-length (liveIn l) (eventsAt f gs) (eventsAt f ds) (live-up l o) (events-asc (eventsAt f ds) d) in
-    let m : length (eventsAt f gs) ≡ length gs = length-at f gs in
-    rw c (leb-same (length (those isLiveSlot (slots l)) + length gs) (length l / 38 + howMany (isAmong (liveIn l)) (eventsAt f ds)) (length (eventsAfter (liveIn l) (eventsAt f gs) (eventsAt f ds))) (length l / 38) (λ h. omega arith) (λ h. omega arith))
-
-module _ (l f : Text) (gs ds : List ℕ) where
-  pub fit-odd : (length l % 38 ≡ 0 → ⊥) → false ≡ isFit l f gs ds
-  unfolding isFit
-  fit-odd n = rw (ne-eqb _ _ n)
-
-  module _ (w : length l % 38 ≡ 0) (o : Bool) (eo : o ≡ adjacent slotFollows (slots l)) where
-    pub fit-disordered : o ≡ false → false ≡ isFit l f gs ds
-    unfolding isFit
-    fit-disordered z = rw (eq-eqb _ _ w, ← eo, z)
-
-    module _ (zo : o ≡ true) (a : Bool) (ea : a ≡ ascends (eventsAt f gs)) where
-      pub fit-added : a ≡ false → false ≡ isFit l f gs ds
-      unfolding isFit
-      fit-added z = rw (eq-eqb _ _ w, ← eo, zo, ← ea, z)
-
-      module _ (za : a ≡ true) (d : Bool) (ed : d ≡ ascends (eventsAt f ds)) where
-        pub fit-deleted : d ≡ false → false ≡ isFit l f gs ds
-        unfolding isFit
-        fit-deleted z = rw (eq-eqb _ _ w, ← eo, zo, ← ea, za, ← ed, z)
-
-        pub fit-room : (r : Bool) → d ≡ true → r ≡ hasRoom l f gs ds → r ≡ isFit l f gs ds
-        unfolding isFit
-        fit-room r z e = rw (eq-eqb _ _ w, ← eo, zo, ← ea, za, ← ed, z) (e ∙ room-after l f gs ds (sym eo ∙ zo) (sym ed ∙ z))
-
-pub ruleset for-is-fit = (needs, fit-odd, fit-disordered, fit-added, fit-deleted, fit-room)
-
--- apply: the slots of the events, and what each step leaves
+-- update: the slots, and what each step leaves
 flat-chop : (c n : ℕ) (l : Text) → c ≤ n → joined whole (take c (chop n l)) ≡ take (c * 38) l
 unfolding chop
 flat-chop zero n l h = refl
@@ -135,110 +97,126 @@ flat-slots : (l : Text) (c : ℕ) → c ≤ length l / 38 → joined whole (take
 unfolding slots slotsIn
 flat-slots l c h = flat-chop c (length l / 38) l h
 
-module _ (l f : Text) (gs ds : List ℕ) (fit : Fit l f gs ds) (live : ℕ) (el : live ≡ length (those isLiveSlot (slots l))) where
-  after : List Text
-  after = eventsAfter (liveIn l) (eventsAt f gs) (eventsAt f ds)
+module _ (l f : Text) (gs ds : List ℕ) (live n : ℕ) (en : n ≡ slotsAsked l live) (m : Text) (k : ℕ) (lm : length m ≡ length l) (ek : k ≡ length (without (slotsFor f ds) (take n (slots l)))) (em : take k (slots m) ≡ without (slotsFor f ds) (take n (slots l))) (o : Text) (a : ℕ) (lo : length o ≡ length m) (ha : a ≤ length m / 38) (ea : a ≡ k + length (roomed m k gs)) (eo : slots o ≡ mergedUpTo (slots m) (slotsFor f (roomed m k gs)) (length (roomed m k gs)) k ++ drop (k + length (roomed m k gs)) (slots m)) where
+  kept-is : without (slotsFor f ds) (take n (slots l)) ≡ keptIn l live f ds
+  unfolding keptIn
+  kept-is = ap (λ (c : ℕ). without (slotsFor f ds) (take c (slots l))) en
 
-  first : take live (slots l) ≡ map liveSlot (liveIn l)
-  first = ap (λ (n : ℕ). take n (slots l)) el ∙ live-first l (fit .order)
+  places-are : roomed m k gs ≡ roomed l (length (keptIn l live f ds)) gs
+  unfolding roomed slotsIn
+  places-are = rw (lm, ← kept-is, ← ek)
 
-  pub apply-live : Asc whole (take live (slots l))
-  apply-live = subst (Asc whole) (sym first) (asc-live (liveIn l) (live-up l (fit .order)))
+  all : List Text
+  all = merged (keptIn l live f ds) (slotsFor f (roomed l (length (keptIn l live f ds)) gs))
 
-  pub apply-deletes : Asc whole (slotsFor f ds)
-  unfolding slotsFor
-  apply-deletes = asc-live (eventsAt f ds) (events-asc (eventsAt f ds) (fit .deleted))
+  all-is : mergedUpTo (slots m) (slotsFor f (roomed m k gs)) (length (roomed m k gs)) k ≡ all
+  unfolding all merged
+  all-is =
+      let added : List Text = slotsFor f (roomed m k gs) in
+      let b : List Text = slotsFor f (roomed l (length (keptIn l live f ds)) gs) in
+      let ab : added ≡ b = ap (slotsFor f) places-are in
+      let j : length (roomed m k gs) ≡ length added = sym (length-for f (roomed m k gs)) in
+      let q : k ≡ length (keptIn l live f ds) = ek ∙ ap length kept-is in
+      sym (merged-cut added k (slots m) (length (roomed m k gs)) k (omega arith))
+      ∙ ap (λ (c : ℕ). mergedUpTo (take k (slots m)) added c k) j
+      ∙ ap (λ (ss : List Text). mergedUpTo ss added (length added) k) (em ∙ kept-is)
+      ∙ ap (λ (c : ℕ). mergedUpTo (keptIn l live f ds) added (length added) c) q
+      ∙ ap (λ (x : List Text). mergedUpTo (keptIn l live f ds) x (length x) (length (keptIn l live f ds))) ab
 
-  pub apply-adds : Up whole (slotsFor f gs)
-  unfolding slotsFor
-  apply-adds = up-asc whole (map liveSlot (eventsAt f gs)) (asc-live (eventsAt f gs) (events-asc (eventsAt f gs) (fit .added)))
+  all-length : length all ≡ a
+  all-length =
+      sym (ap length all-is) ∙ merged-length (slotsFor f (roomed m k gs)) (slots m) (length (roomed m k gs)) k (omega (arith, length-slots m)) ∙ sym ea
 
-  module _ (m : Text) (k : ℕ) (lm : length m ≡ length l) (ek : k ≡ length (less (slotsFor f ds) (take live (slots l)))) (em : take k (slots m) ≡ less (slotsFor f ds) (take live (slots l))) where
-    kept : less (slotsFor f ds) (take live (slots l)) ≡ map liveSlot (less (eventsAt f ds) (liveIn l))
-    unfolding slotsFor
-    kept = ap (less (map liveSlot (eventsAt f ds))) first ∙ less-live (eventsAt f ds) (liveIn l)
+  pub update-in : a * 38 ≤ length o
+  update-in = omega arith
 
-    kept-asc : Asc whole (less (eventsAt f ds) (liveIn l))
-    unfolding less
-    kept-asc = asc-those whole (λ (e : Text). not (isAmong (eventsAt f ds) e)) (liveIn l) (live-up l (fit .order))
+  pub update-done : (q : Text) → q ≡ take (a * 38) o ++ replicate (length o - a * 38) 0 → q ≡ updated l live f gs ds
+  unfolding updated filled all
+  update-done q e =
+      let t : take a (slots o) ≡ all =
+      ap (take a) (eo ∙ ap (λ (S : List Text). S ++ drop (k + length (roomed m k gs)) (slots m)) all-is) ∙ take-at all (drop (k + length (roomed m k gs)) (slots m)) a all-length in
+      let b : take (a * 38) o ≡ joined whole all = sym (flat-slots o a (omega arith)) ∙ ap (joined whole) t in
+      let c : length o - a * 38 ≡ length l - length all * 38 = omega (arith, all-length) in
+      e ∙ ap₂ (λ (x : Text) (z : ℕ). x ++ replicate z 0) b c
 
-    pub apply-kept : Up whole (take k (slots m))
-    apply-kept = subst (Up whole) (sym (em ∙ kept)) (up-asc whole (map liveSlot (less (eventsAt f ds) (liveIn l))) (asc-live (less (eventsAt f ds) (liveIn l)) kept-asc))
-
-    all-placed : place whole (slotsFor f gs) (take k (slots m)) ≡ map liveSlot after
-    unfolding slotsFor eventsAfter after
-    all-placed = ap (place whole (map liveSlot (eventsAt f gs))) (em ∙ kept) ∙ place-live (eventsAt f gs) (less (eventsAt f ds) (liveIn l))
-
-    all-length : length after ≡ k + length gs
-    all-length =
-        sym (length-map after liveSlot) ∙ ap length (sym all-placed) ∙ length-place whole (slotsFor f gs) (take k (slots m)) ∙ omega (arith, length-for f gs, ap length em)
-
-    pub apply-room : k + length gs ≤ length m / 38
-    unfolding after
-    apply-room = omega (arith, all-length, fit .room)
-
-    module _ (o : Text) (a : ℕ) (ea : a ≡ k + length gs) (lo : length o ≡ length m) (eo : slots o ≡ place whole (slotsFor f gs) (take k (slots m)) ++ drop (k + length gs) (slots m)) where
-      pub apply-in : a * 38 ≤ length o
-      apply-in = omega (arith, apply-room)
-
-      pub apply-done : (q : Text) → q ≡ take (a * 38) o ++ replicate (length o - a * 38) 0 → q ≡ ledgerWith (length l) (eventsAfter (liveIn l) (eventsAt f gs) (eventsAt f ds))
-      unfolding ledgerWith after
-      apply-done q e =
-          let n : length (map liveSlot after) ≡ a = length-map after liveSlot ∙ all-length ∙ sym ea in
-          let t : take a (slots o) ≡ map liveSlot after =
-          ap (take a) (eo ∙ ap (λ (S : List Text). S ++ drop (k + length gs) (slots m)) all-placed) ∙ take-at (map liveSlot after) (drop (k + length gs) (slots m)) a n in
-          let b : take (a * 38) o ≡ joined liveSlot after = sym (flat-slots o a (omega (arith, apply-room))) ∙ ap (joined whole) t ∙ sym (joined-live after) in
-          let c : length o - a * 38 ≡ length l - length after * 38 = omega (arith, all-length) in
-          e ∙ ap (λ (x : Text). x ++ replicate (length o - a * 38) 0) b ∙ ap (λ (z : ℕ). joined liveSlot after ++ replicate z 0) c
-
-pub ruleset for-apply = (needs, apply-live, apply-deletes, apply-adds, apply-kept, apply-room, apply-in, apply-done)
-
--- update
-module _ (l f : Text) (gs ds : List ℕ) (r : Bool) (er : r ≡ isFit l f gs ds) where
-  pub fit-is : r ≡ true → Fit l f gs ds
-  unfolding isFit slotsIn
-  fit-is z =
-      let room : Bool = leb (length (eventsAfter (liveIn l) (eventsAt f gs) (eventsAt f ds))) (length l / 38) in
-      let p = both (eqb (length l % 38) 0) (adjacent slotFollows (slots l) && (ascends (eventsAt f gs) && (ascends (eventsAt f ds) && room))) (sym er ∙ z) in
-      let q = both (adjacent slotFollows (slots l)) (ascends (eventsAt f gs) && (ascends (eventsAt f ds) && room)) (p .1) in
-      let u = both (ascends (eventsAt f gs)) (ascends (eventsAt f ds) && room) (q .1) in
-      let v = both (ascends (eventsAt f ds)) room (u .1) in
-      record { order = q .0; added = u .0; deleted = v .0; room = leb-true (length (eventsAfter (liveIn l) (eventsAt f gs) (eventsAt f ds))) (length l / 38) (v .1) }
-
-  pub update-yes : r ≡ true → true ≡ isFit l f gs ds
-  update-yes z = sym z ∙ er
-
-  pub update-no : r ≡ false → false ≡ isFit l f gs ds
-  update-no z = sym z ∙ er
-
-  pub update-done : (m : Text) → r ≡ true → m ≡ ledgerWith (length l) (eventsAfter (liveIn l) (eventsAt f gs) (eventsAt f ds)) → m ≡ updated l f gs ds
-  unfolding updated
-  update-done m z e = rw (← er, z) e
-
-  pub update-kept : r ≡ false → l ≡ updated l f gs ds
-  unfolding updated
-  update-kept z = rw (← er, z)
-
-pub ruleset for-update = (needs, fit-is, update-yes, update-no, update-done, update-kept)
+pub ruleset for-update = (needs, update-in, update-done)
 
 -- Laws for the crates above
 
+length-at : (f : Text) (gs : List ℕ) → length (eventsAt f gs) ≡ length gs
+unfolding eventsAt
+length-at f gs = length-map gs (eventAt f)
+
+for-live : (f : Text) (gs : List ℕ) (es : List Text) → place whole (slotsFor f gs) (map liveSlot es) ≡ map liveSlot (plus (eventsAt f gs) es)
+unfolding slotsFor
+for-live f gs es = place-live (eventsAt f gs) es
+
+merged-size : (ss added : List Text) → length (merged ss added) ≡ length ss + length added
+unfolding merged
+merged-size ss added = merged-length added ss (length added) (length ss) (omega arith)
+
+-- of a well-formed ledger, and events that ascend and have room
+module _ (l : Text) (n : ℕ) (f : Text) (gs ds : List ℕ) (fit : Fit l n f gs ds) where
+  after : List Text
+  after = eventsAfter (liveIn l) (eventsAt f gs) (eventsAt f ds)
+
+  first : take (slotsAsked l n) (slots l) ≡ map liveSlot (liveIn l)
+  first =
+      let c : n ≡ length (those isLiveSlot (slots l)) = fit .live-is ∙ live-length l (fit .order) in
+      ap (λ (i : ℕ). take i (slots l)) (sym (asked-all l n (omega (arith, live-fits l))) ∙ c) ∙ live-first l (fit .order)
+
+  kept : keptIn l n f ds ≡ map liveSlot (less (eventsAt f ds) (liveIn l))
+  unfolding keptIn slotsFor
+  kept =
+      ap (without (map liveSlot (eventsAt f ds))) first
+      ∙ without-less (map liveSlot (eventsAt f ds)) (map liveSlot (liveIn l)) (asc-live (eventsAt f ds) (events-asc (eventsAt f ds) (fit .deleted))) (asc-live (liveIn l) (live-up l (fit .order)))
+      ∙ less-live (eventsAt f ds) (liveIn l)
+
+  kept-up : Up whole (map liveSlot (less (eventsAt f ds) (liveIn l)))
+  unfolding less
+  kept-up =
+      up-asc whole (map liveSlot (less (eventsAt f ds) (liveIn l)))
+      (asc-live (less (eventsAt f ds) (liveIn l)) (asc-those whole (λ (e : Text). not (isAmong (eventsAt f ds) e)) (liveIn l) (live-up l (fit .order))))
+
+  adds-up : Up whole (slotsFor f gs)
+  unfolding slotsFor
+  adds-up = up-asc whole (map liveSlot (eventsAt f gs)) (asc-live (eventsAt f gs) (events-asc (eventsAt f gs) (fit .added)))
+
+  placed : merged (keptIn l n f ds) (slotsFor f gs) ≡ map liveSlot after
+  unfolding merged after eventsAfter
+  placed =
+      let K : List Text = map liveSlot (less (eventsAt f ds) (liveIn l)) in
+      let B : List Text = slotsFor f gs in
+      ap (λ (ss : List Text). mergedUpTo ss B (length B) (length ss)) kept
+      ∙ merged-placed K B kept-up adds-up (length B) (omega arith) (length K) (omega arith)
+      ∙ ap₂ (place whole) (take-all (length B) B (omega arith)) (take-all (length K) K (omega arith))
+      ∙ for-live f gs (less (eventsAt f ds) (liveIn l))
+
+  has-room : roomed l (length (keptIn l n f ds)) gs ≡ gs
+  unfolding after
+  has-room =
+      let s : length (merged (keptIn l n f ds) (slotsFor f gs)) ≡ length (keptIn l n f ds) + length (slotsFor f gs) = merged-size (keptIn l n f ds) (slotsFor f gs) in
+      sym (room-there l (length (keptIn l n f ds)) gs (omega (arith, s, ap length placed, length-map after liveSlot, length-for f gs, fit .room)))
+
+  pub updated-fit : updated l n f gs ds ≡ ledgerWith (length l) (eventsAfter (liveIn l) (eventsAt f gs) (eventsAt f ds))
+  unfolding updated filled ledgerWith after
+  updated-fit =
+      let e : merged (keptIn l n f ds) (slotsFor f (roomed l (length (keptIn l n f ds)) gs)) ≡ map liveSlot after = ap (λ (ps : List ℕ). merged (keptIn l n f ds) (slotsFor f ps)) has-room ∙ placed in
+      ap (λ (ss : List Text). joined whole ss ++ replicate (length l - length ss * 38) 0) e
+      ∙ ap₂ (λ (x : Text) (z : ℕ). x ++ replicate (length l - z * 38) 0) (sym (joined-live after)) (length-map after liveSlot)
+
+-- the room by numbers: live and added against slots and those of the deleted that are live
 module _ (l f : Text) (gs ds : List ℕ) where
-  -- a well-formed ledger, events that ascend, and room: the update is fit
-  pub fit-ok : ledgerOk l ≡ true → ascends (eventsAt f gs) ≡ true → ascends (eventsAt f ds) ≡ true → length (eventsAfter (liveIn l) (eventsAt f gs) (eventsAt f ds)) ≤ slotsIn l → isFit l f gs ds ≡ true
-  unfolding isFit
-  fit-ok ok a d r = rw (ok-whole l ok, ok-order l ok, a, d, le-leb _ _ r)
-
-  -- the room by numbers: live and added against slots and those of the deleted that are live
-  pub fit-numbers : ledgerOk l ≡ true → ascends (eventsAt f gs) ≡ true → ascends (eventsAt f ds) ≡ true → length (liveIn l) + length gs ≤ slotsIn l + howMany (isAmong (liveIn l)) (eventsAt f ds) → isFit l f gs ds ≡ true
+  pub fit-numbers : ledgerOk l ≡ true → ascends (eventsAt f gs) ≡ true → ascends (eventsAt f ds) ≡ true → length (liveIn l) + length gs ≤ slotsIn l + howMany (isAmong (liveIn l)) (eventsAt f ds) → Fit l (length (liveIn l)) f gs ds
+  unfolding slotsIn
   fit-numbers ok a d r =
-      fit-ok ok a d
-      (omega (arith, after-length (liveIn l) (eventsAt f gs) (eventsAt f ds) (live-up l (ok-order l ok)) (events-asc (eventsAt f ds) d), length-at f gs))
-
-  -- and then the ledger is the definition's
-  pub updated-fit : isFit l f gs ds ≡ true → updated l f gs ds ≡ ledgerWith (length l) (eventsAfter (liveIn l) (eventsAt f gs) (eventsAt f ds))
-  unfolding updated
-  updated-fit h = rw h
+      record {
+        order = ok-order l ok;
+        live-is = refl;
+        added = a;
+        deleted = d;
+        room = omega (arith, r, after-length (liveIn l) (eventsAt f gs) (eventsAt f ds) (live-up l (ok-order l ok)) (events-asc (eventsAt f ds) d), length-at f gs);
+      }
 
 -- to sort the places first changes nothing
 among-put : (e x : Text) (es : List Text) → isAmong (putIn whole x es) e ≡ isAmong (x ∷ es) e

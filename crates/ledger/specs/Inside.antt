@@ -3,17 +3,17 @@
 use Prim.Native.Nat.{ℕ, _+_, _-_, _/_, _≤_}
 use mathlib.Core.Path.{_≡_}
 use mathlib.Core.Bool.{Bool, true, not, cond, _&&_}
-use mathlib.Core.List.{List, [], _∷_, _++_, map}
+use mathlib.Core.List.{List, [], _∷_, _++_}
 use lib.ListN.{length, getD, take, drop, replicate}
 use lib.Dec.{leb, ltb}
 use Rattle.house.specs.declared.Order.{Order}
 use Rattle.house.specs.declared.Order.the-variants.{More}
-use Rattle.house.specs.Text.{Text, all, those, howMany, adjacent, orderOf, below}
+use Rattle.house.specs.Text.{Text, all, those, adjacent, orderOf, below}
 use Rattle.lines_places.specs.Events.{eventAt, eventsAt, ascends}
-use Rattle.lines_places.specs.Sorted.{place}
 use Rattle.ledger.specs.declared.Validity.{Validity}
 use Rattle.ledger.specs.declared.Validity.the-variants.{Sound, Malformed}
-use Rattle.ledger.specs.Ledger.{slotBytes, slots, isLiveSlot, slotForm, slotFollows, liveIn, foundIn, liveSlot, eventsAfter, ledgerWith}
+use Rattle.ledger.specs.Ledger.{slotBytes, slots, isLiveSlot, slotForm, slotFollows, liveIn, liveSlot, eventsAfter}
+use Rattle.ledger.specs.Updates.{slotsFor, without, mergedUpTo}
 
 -- the first of the slots after slot t, if there is one, may follow it
 unfoldable pub followed : Text → List Text → Bool
@@ -27,14 +27,6 @@ soundAt t ts = slotForm t && followed t ts
 -- what the check answers where n slots are live and these are left
 unfoldable pub soundFrom : ℕ → List Text → Validity
 soundFrom n ts = cond (all slotForm ts && adjacent slotFollows ts) (Sound (n + length (those isLiveSlot ts))) Malformed
-
--- a slot's place in the order is by all of its bytes
-abbrev pub whole : Text → Text
-whole t = t
-
--- the slots of the events of the lines at these places
-unfoldable pub slotsFor : Text → List ℕ → List Text
-slotsFor f ps = map liveSlot (eventsAt f ps)
 
 -- the slot of the event of the line at the place before place j of a list; zeros where there is none
 unfoldable pub slotBefore : Text → List ℕ → ℕ → Text
@@ -52,22 +44,18 @@ goesLast ss i t = ltb 0 i && not (below (getD ss (i - 1) []) t)
 unfoldable pub lastOf : List Text → ℕ → Text → Text
 lastOf ss i t = cond (goesLast ss i t) (getD ss (i - 1) []) t
 
--- what is live and added has room in the slots and those of the deleted that are found live
-unfoldable pub hasRoom : Text → Text → List ℕ → List ℕ → Bool
-hasRoom s f adds deletes =
-    leb (length (those isLiveSlot (slots s)) + length adds) (length s / slotBytes + howMany (foundIn s (length (those isLiveSlot (slots s)))) (eventsAt f deletes))
-
--- the ledger and the lines at these places are fit for an update, test by test
-pub record Fit (s f : Text) (adds deletes : List ℕ) : Type 0 where
+-- the ledger has so many live events, which come first and ascend; the events to add ascend, those to delete ascend, and there is room
+pub record Fit (s : Text) (n : ℕ) (f : Text) (adds deletes : List ℕ) : Type 0 where
   pub order : adjacent slotFollows (slots s) ≡ true
+  pub live-is : n ≡ length (liveIn s)
   pub added : ascends (eventsAt f adds) ≡ true
   pub deleted : ascends (eventsAt f deletes) ≡ true
   pub room : length (eventsAfter (liveIn s) (eventsAt f adds) (eventsAt f deletes)) ≤ length s / slotBytes
 
--- these slots, once the slots of the events of the lines at these places have been merged into the first n; from there on they stay
-abbrev pub mergedIn : List Text → ℕ → Text → List ℕ → List Text
-mergedIn ss n f adds = place whole (slotsFor f adds) (take n ss) ++ drop (n + length adds) ss
+-- what stays of the first n slots
+abbrev pub keptOf : List Text → ℕ → Text → List ℕ → List Text
+keptOf ss n f deletes = without (slotsFor f deletes) (take n ss)
 
--- the ledger after the events of the lines at these places are deleted and added
-abbrev pub appliedTo : Text → Text → List ℕ → List ℕ → Text
-appliedTo s f adds deletes = ledgerWith (length s) (eventsAfter (liveIn s) (eventsAt f adds) (eventsAt f deletes))
+-- the slots once those of the events of the lines at these places have been merged into the first n; from there on they stay
+abbrev pub mergedIn : List Text → ℕ → Text → List ℕ → List Text
+mergedIn ss n f adds = mergedUpTo ss (slotsFor f adds) (length adds) n ++ drop (n + length adds) ss

@@ -10,7 +10,6 @@ use lib.Dec.{eqb, leb}
 use Rattle.house.specs.Text.{Text, any, all, those, joined, adjacent, orderOf, same, below, run, isDigit, isPadded}
 use Rattle.dates.specs.Dates.{isDate}
 use Rattle.house.specs.Search.{binarySearch}
-use Rattle.lines_places.specs.Events.{eventsAt, ascends}
 use Rattle.ledger.specs.declared.Validity.{Validity}
 use Rattle.ledger.specs.declared.Validity.the-variants.{Sound, Malformed}
 
@@ -111,19 +110,3 @@ liveSlot e = 1 ∷ e
 -- the ledger "in this form", in an area of n bytes, that holds these events: their slots, then free ones
 unfoldable pub ledgerWith : ℕ → List Event → Text
 ledgerWith n es = joined liveSlot es ++ replicate (n - length es * slotBytes) 0
-
--- What an update does
-
--- the ledger and the lines at these places are fit for an update: whole slots, live ones first and ascending; the events to add ascend,
--- those to delete ascend, and what is live after has room
-unfoldable pub isFit : Text → Text → List ℕ → List ℕ → Bool
-isFit s f adds deletes =
-    eqb (length s % slotBytes) 0
-    && (adjacent slotFollows (slots s)
-    && (ascends (eventsAt f adds)
-    && (ascends (eventsAt f deletes) && leb (length (eventsAfter (liveIn s) (eventsAt f adds) (eventsAt f deletes))) (slotsIn s))))
-
--- the ledger after it; as it was where they are not fit
-unfoldable pub updated : Text → Text → List ℕ → List ℕ → Text
-updated s f adds deletes =
-    cond (isFit s f adds deletes) (ledgerWith (length s) (eventsAfter (liveIn s) (eventsAt f adds) (eventsAt f deletes))) s

@@ -1,2 +1,3 @@
 pub mod Ledger
+pub mod Updates
 pub mod Inside

@@ -11,7 +11,7 @@ ghost use Rattle.house.specs.Text.{orderOf};
 ghost use Rattle.ledger.specs.Ledger.{slotBytes, eventIn, slotsAsked, foundIn};
 
 // How many slots are looked at where so many are said to be live.
-fn slots_asked(ledger: &[u8], live: usize) -> usize
+pub(crate) fn slots_asked(ledger: &[u8], live: usize) -> usize
     ensures { λ r. ⌜ r ≡ slotsAsked (now (ledger .entry)) live ⌝ }
     ensures { λ r. ⌜ r ≤ length (now (ledger .entry)) / slotBytes ⌝ }
 {

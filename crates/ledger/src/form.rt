@@ -11,7 +11,6 @@ ghost use mathlib.Core.Bool.{true, false};
 ghost use mathlib.Core.List.{[]};
 ghost use Prim.Native.Nat.{_+_, _/_, _%_, _<_, _≤_};
 ghost use lib.ListN.{length, getD, drop};
-ghost use Rattle.house.specs.Text.{adjacent, those};
 ghost use Rattle.ledger.specs.Ledger.{slotBytes, eventBytes, slots, eventForm, isLiveSlot, isFreeSlot, slotForm, slotFollows, validOf};
 ghost use Rattle.ledger.specs.Inside.{soundAt, soundFrom};
 
@@ -35,14 +34,7 @@ fn is_event(event: &[u8]) -> bool
 fn is_free_slot(slot: &[u8]) -> bool
     ensures { λ r. ⌜ r ≡ isFreeSlot (now (slot .entry)) ⌝ }
 {
-    let mut i = 0;
-    while i < slot.len() {
-        if slot[i] != 0 {
-            return false;
-        }
-        i += 1;
-    }
-    true
+    house::all_within(slot, 0, 0)
 }
 
 // Whether a slot has the form of its kind.
@@ -72,41 +64,6 @@ fn may_follow(s: &[u8], t: &[u8]) -> bool
     } else {
         true
     }
-}
-
-// Whether the live slots come first and ascend.
-pub(crate) fn in_order(ledger: &[u8]) -> bool
-    ensures { λ r. ⌜ r ≡ adjacent slotFollows (slots (now (ledger .entry))) ⌝ }
-{
-    let n = ledger.len() / SLOT;
-    let mut i = 0;
-    while i + 1 < n {
-        if may_follow(slot(ledger, i), slot(ledger, i + 1)) {
-            i += 1;
-        } else {
-            return false;
-        }
-    }
-    true
-}
-
-// How many slots are live.
-pub(crate) fn count_live(ledger: &[u8]) -> usize
-    ensures { λ r. ⌜ r ≡ length (those isLiveSlot (slots (now (ledger .entry)))) ⌝ }
-    ensures { λ r. ⌜ r ≤ length (now (ledger .entry)) / slotBytes ⌝ }
-{
-    let n = ledger.len() / SLOT;
-    let mut live = 0;
-    let mut i = 0;
-    while i < n {
-        if is_live_slot(slot(ledger, i)) {
-            live += 1;
-            i += 1;
-            continue;
-        }
-        i += 1;
-    }
-    live
 }
 
 // Whether slot i has the form of its kind, and the next, if there is one, may follow it.

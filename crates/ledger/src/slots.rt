@@ -1,6 +1,7 @@
 // The slots of a ledger: reading one, writing one, and the slot of an event.
 use crate::SLOT;
 use house::Key;
+use house::wide;
 ghost use mathlib.Core.Path.{_≡_};
 ghost use mathlib.Core.List.{[], _∷_};
 ghost use Prim.Native.Nat.{_+_, _*_, _-_, _/_, _<_};
@@ -54,13 +55,6 @@ pub(crate) fn write_slot(ledger: &mut [u8], i: usize, s: [u8; SLOT])
         ledger[at + j] = s[j];
         j += 1;
     }
-}
-
-// A place, as a position in the file.
-pub(crate) fn wide(p: u32) -> usize
-    ensures { λ r. ⌜ r ≡ p ⌝ }
-{
-    p as usize
 }
 
 // The slot of a live event.

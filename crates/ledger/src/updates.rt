@@ -1,24 +1,19 @@
 // What an accepted file does to a ledger: what it deletes goes, what it adds comes in, and the slots after are free.
 use crate::SLOT;
-use crate::find::is_live;
-use crate::form::count_live;
-use crate::form::in_order;
+use crate::find::slots_asked;
 use crate::slots::read_slot;
 use crate::slots::slot;
 use crate::slots::slot_before;
-use crate::slots::wide;
 use crate::slots::write_slot;
 use house::Order;
 ghost use mathlib.Core.Path.{_≡_};
 ghost use mathlib.Core.Bool.{true, false};
 ghost use mathlib.Core.List.{_++_};
-ghost use Prim.Native.Nat.{_+_, _*_, _-_, _/_, _%_, _<_, _≤_};
-ghost use lib.ListN.{length, getD, take, set, replicate};
-ghost use Rattle.house.specs.Text.{howMany};
-ghost use Rattle.lines_places.specs.Events.{eventAt, eventsAt};
-ghost use Rattle.lines_places.specs.Inside.{Asc, Up};
-ghost use Rattle.ledger.specs.Ledger.{slotBytes, slots, foundIn, less, isFit, updated};
-ghost use Rattle.ledger.specs.Inside.{whole, slotsFor, orderIf, goesLast, lastOf, hasRoom, Fit, mergedIn, appliedTo};
+ghost use Prim.Native.Nat.{_+_, _*_, _-_, _/_, _<_, _≤_};
+ghost use lib.ListN.{length, take, set, replicate};
+ghost use Rattle.ledger.specs.Ledger.{slotBytes, slots};
+ghost use Rattle.ledger.specs.Updates.{roomed, updated};
+ghost use Rattle.ledger.specs.Inside.{orderIf, goesLast, lastOf, keptOf, mergedIn};
 
 // How slot t stands to slot s; above it where there is no slot t.
 fn stands_to(there: bool, t: [u8; SLOT], s: [u8; SLOT]) -> Order
@@ -34,10 +29,9 @@ fn stands_to(there: bool, t: [u8; SLOT], s: [u8; SLOT]) -> Order
 // Moves those of the first n slots that are not deleted to the front, and gives how many they are.
 fn compact(ledger: &mut [u8], n: usize, file: &[u8], deletes: &[u32]) -> usize
     requires { ⌜ n ≤ length (now ledger) / slotBytes ⌝ }
-    requires { ⌜ Asc whole (take n (slots (now ledger))) ⌝ }
-    requires { ⌜ Asc whole (slotsFor (now file) (now deletes)) ⌝ }
-    ensures { λ r. ⌜ r ≡ length (less (slotsFor (now (file .entry)) (now (deletes .entry))) (take n (slots (now (ledger .entry))))) ⌝ }
-    ensures { λ r. ⌜ take r (slots (now (ledger .exit))) ≡ less (slotsFor (now (file .entry)) (now (deletes .entry))) (take n (slots (now (ledger .entry)))) ⌝ }
+    ensures { λ r. ⌜ r ≤ length (now (ledger .entry)) / slotBytes ⌝ }
+    ensures { λ r. ⌜ r ≡ length (keptOf (slots (now (ledger .entry))) n (now (file .entry)) (now (deletes .entry))) ⌝ }
+    ensures { λ r. ⌜ take r (slots (now (ledger .exit))) ≡ keptOf (slots (now (ledger .entry))) n (now (file .entry)) (now (deletes .entry)) ⌝ }
 {
     let mut w = 0;
     let mut r = 0;
@@ -67,10 +61,9 @@ fn compact(ledger: &mut [u8], n: usize, file: &[u8], deletes: &[u32]) -> usize
 // The same; where nothing is deleted, as in most files, all stay where they are.
 fn keep_live(ledger: &mut [u8], n: usize, file: &[u8], deletes: &[u32]) -> usize
     requires { ⌜ n ≤ length (now ledger) / slotBytes ⌝ }
-    requires { ⌜ Asc whole (take n (slots (now ledger))) ⌝ }
-    requires { ⌜ Asc whole (slotsFor (now file) (now deletes)) ⌝ }
-    ensures { λ r. ⌜ r ≡ length (less (slotsFor (now (file .entry)) (now (deletes .entry))) (take n (slots (now (ledger .entry))))) ⌝ }
-    ensures { λ r. ⌜ take r (slots (now (ledger .exit))) ≡ less (slotsFor (now (file .entry)) (now (deletes .entry))) (take n (slots (now (ledger .entry)))) ⌝ }
+    ensures { λ r. ⌜ r ≤ length (now (ledger .entry)) / slotBytes ⌝ }
+    ensures { λ r. ⌜ r ≡ length (keptOf (slots (now (ledger .entry))) n (now (file .entry)) (now (deletes .entry))) ⌝ }
+    ensures { λ r. ⌜ take r (slots (now (ledger .exit))) ≡ keptOf (slots (now (ledger .entry))) n (now (file .entry)) (now (deletes .entry)) ⌝ }
 {
     if deletes.len() == 0 {
         return n;
@@ -111,11 +104,9 @@ fn put_last(ledger: &mut [u8], i: usize, k: usize, t: [u8; SLOT]) -> bool
     }
 }
 
-// Merges the slots of the adds with the first n, from the end on, where each of both is in order; how many they are then.
+// Merges the slots of the adds with the first n, from the end on; how many they are then.
 fn merge_in(ledger: &mut [u8], n: usize, file: &[u8], adds: &[u32]) -> usize
     requires { ⌜ n + length (now adds) ≤ length (now ledger) / slotBytes ⌝ }
-    requires { ⌜ Up whole (take n (slots (now ledger))) ⌝ }
-    requires { ⌜ Up whole (slotsFor (now file) (now adds)) ⌝ }
     ensures { λ r. ⌜ r ≡ n + length (now (adds .entry)) ⌝ }
     ensures { λ r. ⌜ r ≤ length (now (ledger .entry)) / slotBytes ⌝ }
     ensures { λ _. ⌜ slots (now (ledger .exit)) ≡ mergedIn (slots (now (ledger .entry))) n (now (file .entry)) (now (adds .entry)) ⌝ }
@@ -148,87 +139,28 @@ fn clear_from(ledger: &mut [u8], from: usize)
     }
 }
 
-// Whether the event of the line at place j of a list is live.
-fn is_listed_live(ledger: &[u8], live: usize, file: &[u8], places: &[u32], j: usize) -> bool
-    requires { ⌜ j < length (now places) ⌝ }
-    ensures { λ r. ⌜ r ≡ foundIn (now (ledger .entry)) live (eventAt (now (file .entry)) (getD (now (places .entry)) j 0)) ⌝ }
+// The same, where the adds have room after the first n; else all stay.
+fn merge_roomed(ledger: &mut [u8], n: usize, file: &[u8], adds: &[u32]) -> usize
+    requires { ⌜ n ≤ length (now ledger) / slotBytes ⌝ }
+    ensures { λ r. ⌜ r ≡ n + length (roomed (now (ledger .entry)) n (now (adds .entry))) ⌝ }
+    ensures { λ r. ⌜ r ≤ length (now (ledger .entry)) / slotBytes ⌝ }
+    ensures { λ _. ⌜ slots (now (ledger .exit))
+        ≡ mergedIn (slots (now (ledger .entry))) n (now (file .entry)) (roomed (now (ledger .entry)) n (now (adds .entry))) ⌝ }
 {
-    is_live(ledger, live, lines_places::key_at(file, wide(places[j])))
-}
-
-// How many of the events of the lines at these places are live.
-fn count_listed(ledger: &[u8], live: usize, file: &[u8], places: &[u32]) -> usize
-    ensures { λ r. ⌜ r ≡ howMany (foundIn (now (ledger .entry)) live) (eventsAt (now (file .entry)) (now (places .entry))) ⌝ }
-    ensures { λ r. ⌜ r ≤ length (now (places .entry)) ⌝ }
-{
-    let mut n = 0;
-    let mut i = 0;
-    while i < places.len() {
-        if is_listed_live(ledger, live, file, places, i) {
-            n += 1;
-            i += 1;
-            continue;
-        }
-        i += 1;
-    }
-    n
-}
-
-// Whether what is live after an update has room. The deletes are looked for only where all would not have room without them.
-fn has_room(ledger: &[u8], file: &[u8], adds: &[u32], deletes: &[u32]) -> bool
-    ensures { λ r. ⌜ r ≡ hasRoom (now (ledger .entry)) (now (file .entry)) (now (adds .entry)) (now (deletes .entry)) ⌝ }
-{
-    let live = count_live(ledger);
-    let slots = ledger.len() / SLOT;
-    if live + adds.len() <= slots {
-        return true;
-    }
-    let gone = count_listed(ledger, live, file, deletes);
-    live + adds.len() <= slots + gone
-}
-
-// Whether the ledger and the lines at these places are fit for an update.
-fn is_fit(ledger: &[u8], file: &[u8], adds: &[u32], deletes: &[u32]) -> bool
-    ensures { λ r. ⌜ r ≡ isFit (now (ledger .entry)) (now (file .entry)) (now (adds .entry)) (now (deletes .entry)) ⌝ }
-{
-    if ledger.len() % SLOT != 0 {
-        return false;
-    }
-    if in_order(ledger) {
-        if lines_places::ascending(file, adds) {
-            if lines_places::ascending(file, deletes) {
-                has_room(ledger, file, adds, deletes)
-            } else {
-                false
-            }
-        } else {
-            false
-        }
+    if n + adds.len() <= ledger.len() / SLOT {
+        merge_in(ledger, n, file, adds)
     } else {
-        false
+        n
     }
 }
 
-// Deletes and adds, and frees the slots after what is live then.
-fn apply(ledger: &mut [u8], file: &[u8], adds: &[u32], deletes: &[u32])
-    requires { ⌜ Fit (now ledger) (now file) (now adds) (now deletes) ⌝ }
-    ensures { λ _. ⌜ now (ledger .exit) ≡ appliedTo (now (ledger .entry)) (now (file .entry)) (now (adds .entry)) (now (deletes .entry)) ⌝ }
+// What an accepted file does to a ledger with so many live events, in place: the events of the lines at these places deleted and added. Nothing
+// is tested but that there are so many slots, and room.
+pub fn update(ledger: &mut [u8], live: usize, file: &[u8], adds: &[u32], deletes: &[u32])
+    ensures { λ _. ⌜ now (ledger .exit) ≡ updated (now (ledger .entry)) live (now (file .entry)) (now (adds .entry)) (now (deletes .entry)) ⌝ }
 {
-    let live = count_live(ledger);
-    let kept = keep_live(ledger, live, file, deletes);
-    let all = merge_in(ledger, kept, file, adds);
+    let n = slots_asked(ledger, live);
+    let kept = keep_live(ledger, n, file, deletes);
+    let all = merge_roomed(ledger, kept, file, adds);
     clear_from(ledger, all * SLOT);
-}
-
-// What an accepted file does to the ledger, in place: the events of the lines at these places deleted and added. Unfit, it stays as it is.
-pub fn update(ledger: &mut [u8], file: &[u8], adds: &[u32], deletes: &[u32]) -> bool
-    ensures { λ r. ⌜ r ≡ isFit (now (ledger .entry)) (now (file .entry)) (now (adds .entry)) (now (deletes .entry)) ⌝ }
-    ensures { λ _. ⌜ now (ledger .exit) ≡ updated (now (ledger .entry)) (now (file .entry)) (now (adds .entry)) (now (deletes .entry)) ⌝ }
-{
-    if is_fit(ledger, file, adds, deletes) {
-        apply(ledger, file, adds, deletes);
-        true
-    } else {
-        false
-    }
 }

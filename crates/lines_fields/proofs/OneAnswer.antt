@@ -2,12 +2,15 @@
 -- Assumes nothing.
 use mathlib.Core.Path.{_≡_, sym, _∙_}
 use mathlib.Core.Bool.{Bool}
+use mathlib.Core.List.{List}
 use Prim.Native.Nat.{ℕ, _+_}
 use lib.ListN.{length, drop}
 use Rattle.house.specs.Text.{Text}
 use Rattle.lines_fields.specs.declared.LineAt.{LineAt}
 use Rattle.lines_fields.specs.Lines.{lineOf, fieldsOf, fieldOf, fieldText, fieldThere, fieldPosition, fieldsLen, LineIs}
-use Rattle.lines_fields.specs.Inside.{lesserOf}
+use Rattle.lines_fields.specs.Inside.{part, lesserOf}
+use Rattle.lines_fields.specs.declared.Span.{Span}
+use Rattle.lines_fields.specs.Marks.{judgedOf, marksIn, judgedIn, judgedSpan}
 
 one : {A : Type 0} {x r q : A} → r ≡ x → q ≡ x → r ≡ q
 one e f = e ∙ sym f
@@ -30,8 +33,23 @@ field-from t at r q = one
 field-of : (t : Text) (f : ℕ) (r q : Text) → r ≡ fieldOf t f → q ≡ fieldOf t f → r ≡ q
 field-of t f r q = one
 
-field-at : (s : Text) (at f : ℕ) (r q : Text) → r ≡ fieldOf (lineOf (drop at s) .text) f → q ≡ fieldOf (lineOf (drop at s) .text) f → r ≡ q
-field-at s at f r q = one
+judged-at : (s : Text) (at f : ℕ) (r q : Text) → r ≡ judgedOf (lineOf (drop at s) .text) f → q ≡ judgedOf (lineOf (drop at s) .text) f → r ≡ q
+judged-at s at f r q = one
+
+judged-of : (t : Text) (f : ℕ) (r q : Text) → r ≡ judgedOf t f → q ≡ judgedOf t f → r ≡ q
+judged-of t f r q = one
+
+judged : (s : Text) (m : List ℕ) (f : ℕ) (r q : Text) → r ≡ judgedIn s m f → q ≡ judgedIn s m f → r ≡ q
+judged s m f r q = one
+
+judged-span : (s : Text) (m : List ℕ) (f : ℕ) (r q : Span) → r ≡ judgedSpan s m f → q ≡ judgedSpan s m f → r ≡ q
+judged-span s m f r q = one
+
+read-line : (s : Text) (at : ℕ) (m x y : List ℕ) (r q : LineAt) → LineIs s at r → x ≡ marksIn s at m → LineIs s at q → y ≡ marksIn s at m → (r ≡ q) × (x ≡ y)
+read-line s at m x y r q e f g h = (one (e .exact) (g .exact), one f h)
+
+part-of : (t : Text) (a e : ℕ) (r q : Text) → r ≡ part t a e → q ≡ part t a e → r ≡ q
+part-of t a e r q = one
 
 field : (s : Text) (n f : ℕ) (r q : Text) → r ≡ fieldText s n f → q ≡ fieldText s n f → r ≡ q
 field s n f r q = one

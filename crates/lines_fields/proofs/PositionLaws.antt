@@ -2,21 +2,21 @@
 -- Assumes nothing.
 use mathlib.Core.Path.{_≡_, refl, sym, ap, _∙_}
 use mathlib.Core.Bool.{Bool, true, false}
-use mathlib.Core.List.{[]}
+use mathlib.Core.List.{List, [], _∷_}
 use Prim.Native.Nat.{ℕ, zero, suc, _+_, _-_, _≤_, _<_}
 use native.Mathlib.Nat.{add-sub-cancel-left}
 use native.Mathlib.Numerals.{sub-one}
 use native.Mathlib.Omega.{arith}
 use borrow.Author.Tests.{ltb-true, ltb-false}
-use lib.Dec.{ltb}
+use lib.Dec.{eqb, ltb}
 use lib.ListN.{length, getD, take, drop, length-drop}
 use lib.Seq.{length-take-le, take-take, drop-drop, getD-drop}
 use Rattle.house.specs.Text.{Text}
 use Rattle.house.proofs.Small.{clash}
-use Rattle.lines_fields.specs.Lines.{lineOf, textLen, fieldsOf, fieldOf, textAt, fieldText, fieldThere, linesLen, fieldsLen, fieldPosition}
+use Rattle.lines_fields.specs.Lines.{pipe, lineOf, textLen, lengthen, fieldsOf, fieldOf, textAt, fieldText, fieldThere, linesLen, fieldsLen, fieldPosition}
 use Rattle.lines_fields.specs.Inside.{part, pipeLen}
 use Rattle.lines_fields.proofs.LineLaws.{text-is, text-after, text-from}
-use Rattle.lines_fields.proofs.FieldLaws.{fields-first, fields-none, fields-after, fields-le, field-first}
+use Rattle.lines_fields.proofs.FieldLaws.{lengthen-length, start-zero, fields-first, fields-none, fields-after, fields-le, field-first}
 use Rattle.lines_fields.proofs.CutLaws.{part-drop}
 
 -- a text after its first k fields
@@ -40,12 +40,48 @@ module _ (t : Text) (k : ℕ) (h : k < length (fieldsOf t)) where
   field-long : length (getD (fieldsOf t) k []) ≡ pipeLen (afterFront k t)
   field-long = rw field-cut (length-take-le (pipeLen (afterFront k t)) (afterFront k t) (omega (arith, closed)))
 
+-- where the field after it starts: behind it and its pipe
+step-first : (b : ℕ) (fs : List Text) → 0 < length fs → length (getD (lengthen b fs) 0 []) ≡ suc (length (getD fs 0 []))
+unfolding lengthen
+step-first b [] h = absurd (omega arith)
+step-first b (f ∷ fs) h = refl
+
+step-other : (b : ℕ) (fs : List Text) (j : ℕ) → getD (lengthen b fs) (suc j) [] ≡ getD fs (suc j) []
+unfolding lengthen
+step-other b [] j = refl
+step-other b (f ∷ fs) j = refl
+
+module _ (b : ℕ) (t : Text) (rec : (k : ℕ) → k < length (fieldsOf t) → fieldsLen (suc k) t ≡ fieldsLen k t + suc (length (getD (fieldsOf t) k []))) where
+  step-pipe : eqb b pipe ≡ true → (k : ℕ) → k < length (fieldsOf (b ∷ t)) → fieldsLen (suc k) (b ∷ t) ≡ fieldsLen k (b ∷ t) + suc (length (getD (fieldsOf (b ∷ t)) k []))
+  unfolding fieldsOf fieldsLen
+  step-pipe e zero h = simp e (omega (arith, start-zero t))
+  step-pipe e (suc j) h = simp e (omega (arith, rec j (omega (arith, simp e at h))))
+
+  step-text : eqb b pipe ≡ false → (k : ℕ) → k < length (fieldsOf (b ∷ t)) → fieldsLen (suc k) (b ∷ t) ≡ fieldsLen k (b ∷ t) + suc (length (getD (fieldsOf (b ∷ t)) k []))
+  unfolding fieldsOf fieldsLen
+  step-text e zero h =
+      let n : 0 < length (fieldsOf t) = omega (arith, simp e at h, lengthen-length b (fieldsOf t)) in
+      simp e (omega (arith, rec 0 n, step-first b (fieldsOf t) n, start-zero t))
+  step-text e (suc j) h =
+      let n : suc j < length (fieldsOf t) = omega (arith, simp e at h, lengthen-length b (fieldsOf t)) in
+      simp (e, step-other b (fieldsOf t) j) (omega (arith, rec (suc j) n))
+
+pub field-step : (t : Text) (k : ℕ) → k < length (fieldsOf t) → fieldsLen (suc k) t ≡ fieldsLen k t + suc (length (getD (fieldsOf t) k []))
+unfolding fieldsOf
+field-step [] k h = absurd (omega arith)
+field-step (b ∷ t) k h = go (eqb b pipe) refl (field-step t)
+  where
+    go : (v : Bool) → eqb b pipe ≡ v → ((j : ℕ) → j < length (fieldsOf t) → fieldsLen (suc j) t ≡ fieldsLen j t + suc (length (getD (fieldsOf t) j [])))
+        → fieldsLen (suc k) (b ∷ t) ≡ fieldsLen k (b ∷ t) + suc (length (getD (fieldsOf (b ∷ t)) k []))
+    go true e r = step-pipe b t r e k h
+    go false e r = step-text b t r e k h
+
 -- what is cut out of the front of a text is cut out of the text
 front-cut : (v : Text) (l b p : ℕ) → p ≤ l - b → take p (drop b (take l v)) ≡ take p (drop b v)
 front-cut v l b p h = rw (← part-drop v b l) (take-take p (l - b) (drop b v) h)
 
 -- field k + 1 of a text of l bytes that stands at position a of a file
-cut-there : (s t : Text) (a l k : ℕ) → t ≡ take l (drop a s) → length t ≡ l → k < length (fieldsOf t)
+pub cut-there : (s t : Text) (a l k : ℕ) → t ≡ take l (drop a s) → length t ≡ l → k < length (fieldsOf t)
     → getD (fieldsOf t) k [] ≡ take (length (getD (fieldsOf t) k [])) (drop (a + fieldsLen k t) s)
 cut-there s t a l k e n h =
     let q : pipeLen (afterFront k t) ≤ l - fieldsLen k t = omega (arith, closed t k h, length-drop (fieldsLen k t) t) in

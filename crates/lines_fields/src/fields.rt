@@ -200,7 +200,7 @@ fn field_end(file: &[u8], at: usize) -> usize
 }
 
 // Field f of the line that starts at a position, counted from 1; empty where it is not there.
-pub fn field_at(file: &[u8], at: usize, f: usize) -> &[u8]
+pub(crate) fn field_at(file: &[u8], at: usize, f: usize) -> &[u8]
     ensures { λ r. ⌜ now r ≡ fieldOf (lineOf (drop at (now (file .entry))) .text) f ⌝ }
 {
     if f == 0 {

@@ -6,11 +6,12 @@ use mathlib.Core.List.{List, map}
 use lib.ListN.{drop}
 use Rattle.house.specs.Text.{Text, adjacent, below}
 use Rattle.house.specs.Key.{keyOf}
-use Rattle.lines_fields.specs.Lines.{lineOf, fieldOf}
+use Rattle.lines_fields.specs.Lines.{lineOf}
+use Rattle.lines_fields.specs.Marks.{judgedOf}
 
 -- the key of the event that a line's text names
 unfoldable pub eventOf : Text → Text
-eventOf t = keyOf (fieldOf t 3) (fieldOf t 6) (fieldOf t 8)
+eventOf t = keyOf (judgedOf t 3) (judgedOf t 6) (judgedOf t 8)
 
 -- the key of the event that the line at a place names: the line that starts at that position of the file
 unfoldable pub eventAt : Text → ℕ → Text

@@ -1,52 +1,121 @@
--- Fields that no rule is placed on have no findings: those of an II after 15, and those of an IP but 2, 3 and 25.
+-- Fields that no rule is placed on have no findings: those of an II after 15, those of an IP but 2, 3 and 25, all after 25, and all of a
+-- line of no kind.
 -- Assumes nothing.
-use mathlib.Core.Path.{_≡_, refl, ap, _∙_}
-use mathlib.Core.List.{[], _++_, append-assoc, append-nil}
+use mathlib.Core.Path.{_≡_, refl, sym, ap, _∙_}
+use mathlib.Core.Bool.{Bool, true, false}
+use mathlib.Core.List.{List, [], _∷_, _++_, append-assoc}
 use Prim.Native.Nat.{ℕ, zero, suc, _+_, _-_, _≤_, _<_}
 use native.Mathlib.Nat.{zero-add}
+use native.Mathlib.Numerals.{sub-one}
 use native.Mathlib.Omega.{arith}
-use borrow.Author.Tests.{ne-eqb}
-use Rattle.lines.specs.Records.{Rec, IP, II}
-use Rattle.rules_definitions.specs.Forms.{table, formOf, isJudged, isMissing, isMisformed}
+use borrow.Author.Tests.{ne-eqb, lt-leb, le-ltb, leb-true, leb-false}
+use lib.Dec.{T, ltb, leb}
+use Rattle.house.specs.Text.{within}
+use Rattle.lines.specs.Records.{IV, IH, IP, II, IE, IN, IA, IF}
+use Rattle.rules_definitions.specs.Forms.{table}
 use Rattle.rules_definitions.specs.Seen.{Setting, Seen}
-use Rattle.rules_definitions.specs.Rules.{brokenAt}
+use Rattle.rules_definitions.specs.Rules.{Place, rules, rulesIn, rulesOf, brokenAt}
 use Rattle.rules_definitions.specs.Findings.{found, fieldsFindings}
-use Rattle.rules_forms.specs.FieldLeaves.{lowest}
-use Rattle.rules_fields.specs.Fields.{broken}
-use Rattle.rules.specs.Inside.{listed}
-use Rattle.rules.proofs.Collapse.{ip-rest, ii-rest}
-use Rattle.rules.proofs.AtLaws.{plain-at}
+use Rattle.rules.specs.Fields.{lastField}
+use Rattle.rules.proofs.PlacedLaws.{placesPass, liesIn, past, no-place, no-rule}
 
--- no rule at a field whose lowest is none
-none-at : (b : ℕ) → b ≡ 0 → listed (broken b 0 0) ≡ []
-unfolding listed
-none-at b e = rw e
+-- the fields that some rule is placed on, by kind
+abbrev pub ivFields : List ℕ
+ivFields = 2 ∷ []
 
-module _ (l : Rec) (f : ℕ) where
-  ip-low : (f ≡ 2 → ⊥) → (f ≡ 3 → ⊥) → (f ≡ 25 → ⊥) → lowest IP l f 0 ≡ 0
-  unfolding lowest isMissing isMisformed isJudged formOf table
-  ip-low n2 n3 n25 = simp (ne-eqb f 2 n2, ne-eqb f 3 n3, ne-eqb f 25 n25)
+abbrev pub ihFields : List ℕ
+ihFields = 2 ∷ 3 ∷ []
 
-  ii-low : (f ≡ 2 → ⊥) → (f ≡ 3 → ⊥) → (f ≡ 4 → ⊥) → (f ≡ 5 → ⊥) → (f ≡ 6 → ⊥) → (f ≡ 8 → ⊥) → (f ≡ 9 → ⊥) → (f ≡ 10 → ⊥) → (f ≡ 11 → ⊥) → (f ≡ 12 → ⊥) → (f ≡ 13 → ⊥) → (f ≡ 14 → ⊥) → (f ≡ 15 → ⊥)
-      → lowest II l f 0 ≡ 0
-  unfolding lowest isMissing isMisformed isJudged formOf table
-  ii-low n2 n3 n4 n5 n6 n8 n9 n10 n11 n12 n13 n14 n15 =
-      simp
-      (ne-eqb f 2 n2, ne-eqb f 3 n3, ne-eqb f 4 n4, ne-eqb f 5 n5, ne-eqb f 6 n6, ne-eqb f 8 n8, ne-eqb f 9 n9, ne-eqb f 10 n10, ne-eqb f 11 n11, ne-eqb f 12 n12, ne-eqb f 13 n13, ne-eqb f 14 n14, ne-eqb f 15 n15)
+abbrev pub ipFields : List ℕ
+ipFields = 2 ∷ 3 ∷ 25 ∷ []
+
+abbrev pub iiFields : List ℕ
+iiFields = 2 ∷ 3 ∷ 4 ∷ 5 ∷ 6 ∷ 8 ∷ 9 ∷ 10 ∷ 11 ∷ 12 ∷ 13 ∷ 14 ∷ 15 ∷ []
+
+abbrev pub ieFields : List ℕ
+ieFields = 2 ∷ 3 ∷ 4 ∷ 5 ∷ []
+
+abbrev pub inFields : List ℕ
+inFields = 2 ∷ 3 ∷ 4 ∷ 5 ∷ 6 ∷ 7 ∷ 8 ∷ []
+
+abbrev pub iaFields : List ℕ
+iaFields = 2 ∷ 3 ∷ 4 ∷ []
+
+abbrev pub ifFields : List ℕ
+ifFields = 2 ∷ 3 ∷ []
+
+-- each a computed test of all places
+module _ (s : Setting) where
+  pub iv-places : T (placesPass (liesIn IV ivFields) (rulesOf s))
+  unfolding rulesOf rulesIn rules table
+  iv-places = tt
+
+  pub ih-places : T (placesPass (liesIn IH ihFields) (rulesOf s))
+  unfolding rulesOf rulesIn rules table
+  ih-places = tt
+
+  pub ip-places : T (placesPass (liesIn IP ipFields) (rulesOf s))
+  unfolding rulesOf rulesIn rules table
+  ip-places = tt
+
+  pub ii-places : T (placesPass (liesIn II iiFields) (rulesOf s))
+  unfolding rulesOf rulesIn rules table
+  ii-places = tt
+
+  pub ie-places : T (placesPass (liesIn IE ieFields) (rulesOf s))
+  unfolding rulesOf rulesIn rules table
+  ie-places = tt
+
+  pub in-places : T (placesPass (liesIn IN inFields) (rulesOf s))
+  unfolding rulesOf rulesIn rules table
+  in-places = tt
+
+  pub ia-places : T (placesPass (liesIn IA iaFields) (rulesOf s))
+  unfolding rulesOf rulesIn rules table
+  ia-places = tt
+
+  pub if-places : T (placesPass (liesIn IF ifFields) (rulesOf s))
+  unfolding rulesOf rulesIn rules table
+  if-places = tt
+
+  kinds-pass : T (placesPass (λ (p : Place). within IV IF (p .kind)) (rulesOf s))
+  unfolding rulesOf rulesIn rules table
+  kinds-pass = tt
+
+  first-pass : T (placesPass (λ (p : Place). ltb 1 (p .field)) (rulesOf s))
+  unfolding rulesOf rulesIn rules table
+  first-pass = tt
+
+  last-pass : T (placesPass (λ (p : Place). leb (p .field) (lastField (p .kind))) (rulesOf s))
+  unfolding rulesOf rulesIn rules table lastField
+  last-pass = tt
+
+  most-pass : T (placesPass (λ (p : Place). leb (p .field) 25) (rulesOf s))
+  unfolding rulesOf rulesIn rules table
+  most-pass = tt
 
 module _ (s : Setting) (v : Seen) where
+  -- a line of no kind
+  pub kind-blank : (f : ℕ) → within IV IF (v .line .kind) ≡ false → brokenAt s v f ≡ []
+  kind-blank f h = no-place s v (λ (p : Place). within IV IF (p .kind)) (v .line .kind) f refl (kinds-pass s) h
+
+  -- a field after the 25th, of any kind
+  pub field-blank : (f : ℕ) → 25 < f → brokenAt s v f ≡ []
+  field-blank f h = no-place s v (λ (p : Place). leb (p .field) 25) (v .line .kind) f refl (most-pass s) (lt-leb f 25 h)
+
+  -- the first field
+  pub first-blank : (f : ℕ) → f ≤ 1 → brokenAt s v f ≡ []
+  first-blank f h = no-place s v (λ (p : Place). ltb 1 (p .field)) (v .line .kind) f refl (first-pass s) (le-ltb 1 f h)
+
+  -- those after the last that a rule is placed on
+  pub last-blank : (k f : ℕ) → v .line .kind ≡ k → lastField k < f → brokenAt s v f ≡ []
+  last-blank k f e h = no-place s v (λ (p : Place). leb (p .field) (lastField (p .kind))) k f e (last-pass s) (lt-leb f (lastField k) h)
+
   pub ip-blank : (f : ℕ) → v .line .kind ≡ IP → (f ≡ 2 → ⊥) → (f ≡ 3 → ⊥) → (f ≡ 25 → ⊥) → brokenAt s v f ≡ []
-  ip-blank f k n2 n3 n25 = plain-at s v IP f k (ip-rest s v f k n2 n25) ∙ none-at (lowest IP (v .line) f 0) (ip-low (v .line) f n2 n3 n25)
+  ip-blank f k n2 n3 n25 = no-rule s v IP f ipFields k (ip-places s) (simp (ne-eqb f 2 n2, ne-eqb f 3 n3, ne-eqb f 25 n25))
 
   pub ii-blank : (f : ℕ) → v .line .kind ≡ II → 15 < f → brokenAt s v f ≡ []
-  ii-blank f k h =
-      let n : (m : ℕ) → m ≤ 15 → f ≡ m → ⊥ = λ m i e. omega arith in
-      plain-at s v II f k
-      (ii-rest s v f k (n 2 (omega arith)) (n 3 (omega arith)) (n 4 (omega arith)) (n 6 (omega arith)) (n 8 (omega arith)) (n 9 (omega arith)) (n 10 (omega arith)) (n 11 (omega arith)) (n 12 (omega arith))
-      (n 13 (omega arith)) (n 14 (omega arith)) (n 15 (omega arith)))
-      ∙ none-at (lowest II (v .line) f 0)
-      (ii-low (v .line) f (n 2 (omega arith)) (n 3 (omega arith)) (n 4 (omega arith)) (n 5 (omega arith)) (n 6 (omega arith)) (n 8 (omega arith)) (n 9 (omega arith)) (n 10 (omega arith)) (n 11 (omega arith))
-      (n 12 (omega arith)) (n 13 (omega arith)) (n 14 (omega arith)) (n 15 (omega arith)))
+  ii-blank f k h = no-rule s v II f iiFields k (ii-places s) (past 15 f iiFields tt h)
 
   -- so many fields from one on, of which none has a finding
   pub blank-run : (n f m : ℕ) → ((g : ℕ) → f ≤ g → g < f + m → brokenAt s v g ≡ []) → fieldsFindings s n v f m ≡ []
@@ -64,28 +133,22 @@ module _ (s : Setting) (v : Seen) where
       let d : suc a + b ≡ suc (a + b) = omega arith in
       rw (d, run-append n (f + 1) a b, e, append-assoc)
 
-  -- a run of one
-  pub run-one : (n f : ℕ) → fieldsFindings s n v f 1 ≡ found n f (brokenAt s v f)
-  unfolding fieldsFindings
-  run-one n f = append-nil (found n f (brokenAt s v f))
+  -- fields without a finding are passed over, as many as there are of them
+  pub blank-skip : (n f a m : ℕ) → ((g : ℕ) → f ≤ g → g < f + a → brokenAt s v g ≡ []) → fieldsFindings s n v f m ≡ fieldsFindings s n v (f + a) (m - a)
+  blank-skip n f a m h = go (leb a m) refl
+    where
+      go : (b : Bool) → leb a m ≡ b → fieldsFindings s n v f m ≡ fieldsFindings s n v (f + a) (m - a)
+      go true e =
+          let q : a ≤ m = leb-true a m e in
+          let d : m ≡ a + (m - a) = omega arith in
+          ap (fieldsFindings s n v f) d ∙ run-append n f a (m - a) ∙ rw (blank-run n f a h)
+      go false e =
+          let q : m < a = leb-false a m e in
+          let d : m - a ≡ 0 = omega arith in
+          blank-run n f m (λ g i j. h g i (omega arith)) ∙ rw d (sym (blank-run n (f + a) 0 (λ g i j. absurd (omega arith))))
 
-  -- all fields of an IP that has 25 at least
-  pub person-run : (n m : ℕ) → v .line .kind ≡ IP → 25 ≤ m
-      → fieldsFindings s n v 1 m ≡ found n 2 (brokenAt s v 2) ++ (found n 3 (brokenAt s v 3) ++ found n 25 (brokenAt s v 25))
-  person-run n m k h =
-      let e : m ≡ 1 + (1 + (1 + (21 + (1 + (m - 25))))) = omega arith in
-      ap (fieldsFindings s n v 1) e
-      ∙ rw (
-        run-append n 1 1 (1 + (1 + (21 + (1 + (m - 25))))),
-        run-append n 2 1 (1 + (21 + (1 + (m - 25)))),
-        run-append n 3 1 (21 + (1 + (m - 25))),
-        run-append n 4 21 (1 + (m - 25)),
-        run-append n 25 1 (m - 25),
-        blank-run n 1 1 (λ g a b. ip-blank g k (λ z. omega arith) (λ z. omega arith) (λ z. omega arith)),
-        blank-run n 4 21 (λ g a b. ip-blank g k (λ z. omega arith) (λ z. omega arith) (λ z. omega arith)),
-        blank-run n 26 (m - 25) (λ g a b. ip-blank g k (λ z. omega arith) (λ z. omega arith) (λ z. omega arith)),
-        run-one n 2,
-        run-one n 3,
-        run-one n 25,
-        append-nil,
-      )
+  -- one field, and those after it
+  pub fields-on : (n f left : ℕ) → 0 < left → fieldsFindings s n v f left ≡ found n f (brokenAt s v f) ++ fieldsFindings s n v (f + 1) (left - 1)
+  unfolding fieldsFindings
+  fields-on n f zero h = absurd (omega arith)
+  fields-on n f (suc left) h = rw sub-one

@@ -1,109 +1,185 @@
--- What each need of the public function asks: the index is built or not, and the walk's answer.
+-- What each need of the public function asks: the blocks are gathered and put in order, and the walk is made again where two name one event.
 -- Assumes nothing.
 use mathlib.Core.Path.{_≡_, refl, sym, ap, _∙_}
-use mathlib.Core.Logic.{inl, inr}
 use mathlib.Core.Bool.{Bool, true, false, cond, _&&_}
-use mathlib.Core.List.{List}
-use Prim.Native.Nat.{ℕ, _-_, _≤_}
+use mathlib.Core.List.{List, [], _∷_, _++_}
+use Prim.Native.Nat.{ℕ, _-_, _≤_, _<_}
 use native.Mathlib.Omega.{arith}
 use borrow.Author.Needs.{needs}
-use borrow.Author.Tests.{leb-true}
+use borrow.Author.Tests.{leb-true, le-leb, lt-leb}
 use lib.Dec.{leb}
-use lib.ListN.{length, take}
+use lib.ListN.{length, take, drop}
+use lib.Seq.{take-all}
 use Rattle.house.specs.Text.{Text, howMany}
 use Rattle.house.proofs.Small.{both, clash}
 use Rattle.lines.specs.Records.{IN, isKind, recs}
-use Rattle.book.specs.declared.Sections.{Sections}
-use Rattle.rules_definitions.specs.Findings.{areaAfter}
 use Rattle.lines.specs.Events.{eventsAt, ascends}
+use Rattle.lines.specs.Sorted.{sortedAt, sortedApart}
+use Rattle.book.specs.declared.Sections.{Sections}
+use Rattle.ledger.specs.Ledger.{foundIn}
+use Rattle.rules_definitions.specs.Seen.{Setting}
+use Rattle.rules_definitions.specs.Findings.{Finding, findingsOf, areaAfter}
+use Rattle.rules_definitions.proofs.AreaLaws.{area-again}
 use Rattle.rules_walk.specs.declared.Built.{Built}
 use Rattle.rules_walk.specs.declared.Built.the-variants.{Blocks, TooMany as NotBuilt}
-use Rattle.rules_walk.specs.Firsts.{firstsOf, indexOf, over, canBuild, builtOf, builtIn}
-use Rattle.rules_walk.proofs.OverLaws.{over-taken, length-over, index-size}
+use Rattle.rules_walk.specs.Firsts.{firstsOf, indexOf, over, canBuild, builtIn, canSortFront, frontOf, frontIn}
+use Rattle.rules_walk.proofs.IndexNeeds.{can-same, not-built, index-apart, index-built, index-front}
+use Rattle.rules.specs.declared.By.{By}
+use Rattle.rules.specs.declared.Walked.{Walked}
+use Rattle.rules.specs.declared.Judged.{Judged}
 use Rattle.rules.specs.declared.Judged.the-variants.{Done, TooMany}
-use Rattle.rules.specs.Walk.{Serves}
-use Rattle.rules.specs.Judged.{findingsBy, judgedOf, judgedArea}
+use Rattle.rules.specs.Look.{settingBy}
+use Rattle.rules.specs.Under.{findingsUnder}
+use Rattle.rules.specs.Judged.{findingsBy, judgedOf, judgedArea, WalkIs, GatherIs, Judging, Sorting}
+use Rattle.rules.proofs.UnderLaws.{under-index, under-none, under-fewer}
 
-module _ (file : Text) (m : ℕ) (r : Built) (e : r ≡ builtOf file m) where
-  not-built : r ≡ NotBuilt → canBuild file m ≡ false
-  unfolding builtOf
-  not-built z = go (canBuild file m) (sym e ∙ z)
+-- the index is in order, or not
+module _ (file : Text) (area : List ℕ) (n : ℕ) (r : Built) (e : r ≡ frontOf file area n) where
+  front-none : r ≡ NotBuilt → canSortFront area n ≡ false
+  unfolding frontOf
+  front-none z = go (canSortFront area n) (sym e ∙ z)
     where
-      go : (t : Bool) → cond t (Blocks (length (firstsOf file)) (ascends (eventsAt file (indexOf file)))) NotBuilt ≡ NotBuilt → t ≡ false
+      go : (t : Bool) → cond t (Blocks n (sortedApart file (take n area))) NotBuilt ≡ NotBuilt → t ≡ false
       go true y = clash (cc)
       go false y = refl
 
-  is-built : (n : ℕ) (d : Bool) → r ≡ Blocks n d → (canBuild file m ≡ true) × ((n ≡ length (firstsOf file)) × (d ≡ ascends (eventsAt file (indexOf file))))
-  unfolding builtOf
-  is-built n d z = go (canBuild file m) (sym z ∙ e)
+  front-done : (m : ℕ) (d : Bool) → r ≡ Blocks m d → (canSortFront area n ≡ true) × ((m ≡ n) × (d ≡ sortedApart file (take n area)))
+  unfolding frontOf
+  front-done m d z = go (canSortFront area n) (sym z ∙ e)
     where
-      go : (t : Bool) → Blocks n d ≡ cond t (Blocks (length (firstsOf file)) (ascends (eventsAt file (indexOf file)))) NotBuilt
-          → (t ≡ true) × ((n ≡ length (firstsOf file)) × (d ≡ ascends (eventsAt file (indexOf file))))
+      go : (t : Bool) → Blocks m d ≡ cond t (Blocks n (sortedApart file (take n area))) NotBuilt → (t ≡ true) × ((m ≡ n) × (d ≡ sortedApart file (take n area)))
       go true y = (refl, (cc, cc))
       go false y = clash (cc)
 
-  -- the file is not too long, and its index has room
-  built-says : canBuild file m ≡ true → (length file ≤ 5000000) × (length (firstsOf file) ≤ m)
-  unfolding canBuild
-  built-says h =
-      let p = both (leb (length file) 5000000) (leb (length (firstsOf file)) 96154 && leb (length (firstsOf file)) m) h in
-      let q = both (leb (length (firstsOf file)) 96154) (leb (length (firstsOf file)) m) (p .1) in
-      (leb-true (length file) 5000000 (p .0), leb-true (length (firstsOf file)) m (q .1))
+can-says : (area : List ℕ) (n : ℕ) → canSortFront area n ≡ true → (n ≤ 96154) × (n ≤ length area)
+unfolding canSortFront
+can-says area n h = let p = both (leb n 96154) (leb n (length area)) h in (leb-true n 96154 (p .0), leb-true n (length area) (p .1))
 
-  module _ (today : ℕ) (book : Text) (q : Sections) (ledger : Text) (live : ℕ) where
-    pub judged-none : r ≡ NotBuilt → TooMany ≡ judgedOf today file book q ledger live m
+-- judge_file
+module _ (file book : Text) (by : By) (ledger : Text) (room : List ℕ) (area : Text) (short : length file ≤ 5000000) where
+  abbrev S : Setting
+  S = settingBy (by .today) book (by .sections) (foundIn ledger (by .live))
+
+  module _ (w : Walked) (after : Text) (new : List ℕ) (g : GatherIs S file area room w after new) (b : Built) (e : b ≡ frontOf file new (w .blocks)) (index : List ℕ) (i : index ≡ frontIn file new (w .blocks)) where
+    many : b ≡ NotBuilt → Judging file book by ledger room area TooMany index after
+    unfolding judgedOf judgedArea frontIn
+    many z =
+        let f : canSortFront new (w .blocks) ≡ false = front-none file new (w .blocks) b e z in
+        let c : canBuild file (length room) ≡ false = can-same file room short (w .blocks) (g .blocks-are) new (g .index-is) ∙ f in
+        record {
+          answer = rw c;
+          room-is = i ∙ rw f (not-built file room short (w .blocks) (g .blocks-are) new (g .index-is) f);
+          area-is = g .walk-is .area-is ∙ rw (c, le-leb (length file) 5000000 short);
+        }
+
+    module _ (n : ℕ) (d : Bool) (z : b ≡ Blocks n d) where
+      can : canSortFront new (w .blocks) ≡ true
+      can = front-done file new (w .blocks) b e n d z .0
+
+      n-is : n ≡ w .blocks
+      n-is = front-done file new (w .blocks) b e n d z .1 .0
+
+      few : (w .blocks ≤ 96154) × (w .blocks ≤ length new)
+      few = can-says new (w .blocks) can
+
+      built : canBuild file (length room) ≡ true
+      built = can-same file room short (w .blocks) (g .blocks-are) new (g .index-is) ∙ can
+
+      index-is : index ≡ sortedAt file (take (w .blocks) new) ++ drop (w .blocks) new
+      unfolding frontIn
+      index-is = i ∙ rw can
+
+      room-is : index ≡ builtIn file room
+      room-is = index-is ∙ index-built file room short (w .blocks) (g .blocks-are) new (g .index-is) can (few .0) (few .1)
+
+      apart : d ≡ ascends (eventsAt file (indexOf file))
+      apart = front-done file new (w .blocks) b e n d z .1 .1 ∙ index-apart file room short (w .blocks) (g .blocks-are) new (g .index-is) can (few .0) (few .1)
+
+      done : (findings : ℕ) (last : Text) → findings ≡ length (findingsOf S file) → last ≡ areaAfter area (findingsOf S file)
+          → Judging file book by ledger room area (Done n findings (w .«not_immunized»)) index last
+      unfolding judgedOf judgedArea findingsBy
+      done findings last p q =
+          record {
+            answer = rw (built, n-is, g .blocks-are, g .not-immunized-is, p);
+            room-is = room-is;
+            area-is = q ∙ rw built;
+          }
+
+      once : d ≡ true → Judging file book by ledger room area (Done n (w .findings) (w .«not_immunized»)) index after
+      once t =
+          let u : findingsUnder S file [] ≡ findingsOf S file = under-none S file (sym apart ∙ t) in
+          done (w .findings) after (g .walk-is .count-is ∙ ap length u) (g .walk-is .area-is ∙ ap (areaAfter area) u)
+
+      again : (findings : ℕ) (last : Text) → WalkIs S file (take n index) after findings last
+          → Judging file book by ledger room area (Done n findings (w .«not_immunized»)) index last
+      again findings last a =
+          let f : take n index ≡ indexOf file = rw (n-is, index-is) (index-front file room short (w .blocks) (g .blocks-are) new (g .index-is) can (few .0) (few .1)) in
+          let u : findingsUnder S file (take n index) ≡ findingsOf S file = under-index S file (take n index) f in
+          done findings last (a .count-is ∙ ap length u)
+          (a .area-is ∙ rw (u, g .walk-is .area-is) (area-again area (findingsUnder S file []) (findingsOf S file) (under-fewer S file)))
+
+-- judge_sorted
+module _ (file book : Text) (by : By) (ledger : Text) (short : length file ≤ 5000000) (w : Walked) (left : Text) (new : List ℕ) (b : Built) (e : b ≡ frontOf file new (w .blocks)) (index : List ℕ)
+    (i : index ≡ frontIn file new (w .blocks)) where
+  pub sorted-many : b ≡ NotBuilt → Sorting file book by ledger w new left TooMany index left
+  sorted-many z = record { judging = λ room area g. many file book by ledger room area short w left new g b e index i z }
+
+  module _ (n : ℕ) (d : Bool) (z : b ≡ Blocks n d) where
+    pub sorted-once : d ≡ true → Sorting file book by ledger w new left (Done n (w .findings) (w .«not_immunized»)) index left
+    sorted-once t = record { judging = λ room area g. once file book by ledger room area short w left new g b e index i n d z t }
+
+    pub sorted-again : (findings : ℕ) (last : Text) → WalkIs (settingBy (by .today) book (by .sections) (foundIn ledger (by .live))) file (take n index) left findings last
+        → Sorting file book by ledger w new left (Done n findings (w .«not_immunized»)) index last
+    sorted-again findings last a = record { judging = λ room area g. again file book by ledger room area short w left new g b e index i n d z findings last a }
+
+pub ruleset for-judge-sorted = (needs, sorted-many, sorted-once, sorted-again)
+
+-- judge_file
+pub file-judged : (file book : Text) (by : By) (ledger : Text) (w : Walked) (room new : List ℕ) (area left : Text) (r : Judged) (index : List ℕ) (after : Text)
+    → GatherIs (settingBy (by .today) book (by .sections) (foundIn ledger (by .live))) file area room w left new
+    → Sorting file book by ledger w new left r index after → Judging file book by ledger room area r index after
+file-judged file book by ledger w room new area left r index after g s = s .judging room area g
+
+pub ruleset for-judge-file = (needs, file-judged)
+
+-- walk_by
+pub by-all : (s : Setting) (file : Text) (places : List ℕ) (n : ℕ) (area : Text) (r : ℕ) (after : Text) → length places ≤ n → WalkIs s file places area r after
+    → WalkIs s file (take n places) area r after
+by-all s file places n area r after h w = rw (take-all n places h) w
+
+pub by-front : (s : Setting) (file : Text) (places : List ℕ) (n : ℕ) (area : Text) (r : ℕ) (after : Text) → WalkIs s file (take (n - 0) places) area r after
+    → WalkIs s file (take n places) area r after
+by-front s file places n area r after w = let e : n - 0 ≡ n = omega arith in rw e at w
+
+pub ruleset for-walk-by = (needs, by-all, by-front)
+
+-- judge
+module _ (today : ℕ) (file book : Text) (q : Sections) (ledger : Text) (live : ℕ) (room : List ℕ) (area : Text) where
+  module _ (h : 5000000 < length file) where
+    too-long : canBuild file (length room) ≡ false
+    unfolding canBuild
+    too-long = rw (lt-leb (length file) 5000000 h)
+
+    pub long-none : TooMany ≡ judgedOf today file book q ledger live (length room)
     unfolding judgedOf
-    judged-none z = rw (not-built z)
+    long-none = rw too-long
 
-    pub area-none : (area : Text) → r ≡ NotBuilt → area ≡ judgedArea today file book q ledger live m area
+    pub long-room : room ≡ builtIn file room
+    unfolding builtIn
+    long-room = rw (too-long, lt-leb (length file) 5000000 h)
+
+    pub long-area : area ≡ judgedArea today file book q ledger live (length room) area
     unfolding judgedArea
-    area-none area z = rw (not-built z)
+    long-area = rw (too-long, lt-leb (length file) 5000000 h)
 
-    module _ (n : ℕ) (t : Bool) (z : r ≡ Blocks n t) where
-      pub judged-done : (f d : ℕ) → f ≡ length (findingsBy today file book q ledger live) → d ≡ howMany (isKind IN) (recs file) → Done n f d ≡ judgedOf today file book q ledger live m
-      unfolding judgedOf
-      judged-done f d x y = rw (is-built n t z .0, is-built n t z .1 .0, x, y)
+  module _ (r : Judged) (index : List ℕ) (after : Text) (j : Judging file book (record { today = today; sections = q; live = live }) ledger room area r index after) where
+    pub judge-answer : r ≡ judgedOf today file book q ledger live (length room)
+    judge-answer = j .answer
 
-      pub area-done : (area after : Text) → after ≡ areaAfter area (findingsBy today file book q ledger live) → after ≡ judgedArea today file book q ledger live m area
-      unfolding judgedArea
-      area-done area after x = x ∙ rw (is-built n t z .0)
+    pub judge-room : index ≡ builtIn file room
+    judge-room = j .room-is
 
-  pub built-short : (n : ℕ) (t : Bool) → r ≡ Blocks n t → length file ≤ 5000000
-  built-short n t z = built-says (is-built n t z .0) .0
+    pub judge-area : after ≡ judgedArea today file book q ledger live (length room) area
+    judge-area = j .area-is
 
-module _ (file : Text) (room₀ room : List ℕ) (r : Built) (e : r ≡ builtOf file (length room₀)) (w : room ≡ builtIn file room₀) (n : ℕ) (t : Bool) (z : r ≡ Blocks n t) where
-  can : canBuild file (length room₀) ≡ true
-  can = is-built file (length room₀) r e n t z .0
-
-  size : n ≡ length (indexOf file)
-  size = is-built file (length room₀) r e n t z .1 .0 ∙ sym (index-size file)
-
-  written : room ≡ over (indexOf file) room₀
-  unfolding builtIn
-  written = w ∙ rw can
-
-  fits : length (indexOf file) ≤ length room₀
-  fits = omega (arith, index-size file, built-says file (length room₀) r e can .1)
-
-  -- the places that are asked are at the front of the room
-  module _ (k : ℕ) (m : k ≡ cond t 0 n) where
-    pub asked-in : k ≤ length room
-    asked-in = go t m
-      where
-        go : (u : Bool) → k ≡ cond u 0 n → k ≤ length room
-        go true i = omega arith
-        go false i = omega (arith, fits, size, ap length written, length-over (indexOf file) room₀)
-
-    pub asked-serves : Serves file (take (k - 0) room)
-    unfolding Serves
-    asked-serves = go t refl
-      where
-        go : (u : Bool) → t ≡ u → Serves file (take (k - 0) room)
-        go true i =
-            let o : k - 0 ≡ 0 = let l : k ≡ 0 = m ∙ ap (λ (u : Bool). cond u 0 n) i in omega arith in
-            inr (ap (λ (j : ℕ). take j room) o, sym (is-built file (length room₀) r e n t z .1 .1) ∙ i)
-        go false i =
-            let o : k - 0 ≡ n = let l : k ≡ n = m ∙ ap (λ (u : Bool). cond u 0 n) i in omega arith in
-            inl (ap (λ (j : ℕ). take j room) o ∙ ap (take n) written ∙ over-taken (indexOf file) room₀ n (sym size) fits)
-
-pub ruleset for-judge = (needs, judged-none, area-none, judged-done, area-done, built-short, asked-in, asked-serves)
+pub ruleset for-judge = (needs, long-none, long-room, long-area, judge-answer, judge-room, judge-area)

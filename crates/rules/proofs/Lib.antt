@@ -2,35 +2,40 @@
 -- Assumes nothing.
 -- What is kept of a list of findings
 pub mod KeepLaws
--- The walk over the lines
-pub mod WalkLaws
-pub mod SpanLaws
-pub mod StepLaws
-pub mod StartStateLaws
-pub mod RestLaws
-pub mod TurnLaws
 -- The rules at a field
+pub mod PlacedLaws
 pub mod Collapse
 pub mod AtLaws
 pub mod BlankLaws
 pub mod RuleLaws
+pub mod ReadLaws
+pub mod RepeatLaws
 pub mod SettingLaws
+-- The walk over the lines
+pub mod WalkLaws
+pub mod SeenLaws
+pub mod StartLaws
+pub mod StepLaws
+pub mod ViewLaws
+pub mod UnderLaws
 -- What the functions' own needs ask
 mod EmitNeeds
-mod WalkNeeds
+mod ToldLaws
 mod LowestLaws
-mod AnswerNeeds
-mod CodeNeeds
-mod FieldNeeds
+mod CodeLaws
 mod ReasonLaws
+mod FieldNeeds
 mod HeadNeeds
+mod VaccineNeeds
 mod LineNeeds
-mod PassNeeds
+mod LookNeeds
+mod ReadNeeds
+mod WalkNeeds
 mod TurnNeeds
+mod GatherNeeds
 mod JudgeNeeds
 -- No second answer
 mod OneAnswer
-mod VaccineNeeds
 -- Of the crates below
 pub use Rattle.rules_definitions.proofs.FindingLaws
 pub use Rattle.rules_definitions.proofs.AreaLaws

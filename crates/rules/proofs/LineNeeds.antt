@@ -1,292 +1,295 @@
 -- What each need of the functions on a whole line asks.
 -- Assumes nothing.
 use mathlib.Core.Path.{_≡_, refl, sym, ap, _∙_}
-use mathlib.Core.List.{[], reverse}
+use mathlib.Core.Logic.{_⊎_, inl, inr}
 use mathlib.Core.Bool.{Bool, true, false, cond, _&&_}
-use Prim.Native.Nat.{ℕ, suc, _+_, _-_, _*_, _^_, _≤_, _<_}
+use mathlib.Core.List.{List}
+use Prim.Native.Nat.{ℕ, _+_, _-_, _*_, _^_, _≤_, _<_}
 use native.Mathlib.Omega.{arith}
 use borrow.Author.Needs.{needs}
-use borrow.Author.Tests.{ne-eqb, eqb-true, lt-ltb, le-ltb, ltb-true, leb-true}
-use lib.Dec.{eqb, ltb, leb}
-use lib.ListN.{length, drop}
+use borrow.Author.Tests.{ne-eqb, eqb-true, lt-ltb, le-ltb, ltb-true, ltb-false}
+use lib.Dec.{eqb, ltb}
+use lib.ListN.{length, getD, drop, List·getD-eq-default}
 use Rattle.house.specs.Text.{Text}
-use Rattle.house.proofs.Small.{both}
-use Rattle.lines_fields.specs.Lines.{fieldsOf, fieldOf}
-use Rattle.lines.specs.Records.{Rec, recordOf, recOf, recs}
-use Rattle.book.specs.declared.Sections.{Sections}
+use Rattle.lines_fields.specs.Lines.{lineOf}
+use Rattle.lines_fields.specs.Marks.{marksAt, judgedIn}
+use Rattle.lines_fields.proofs.MarkLaws.{mark-count}
+use Rattle.lines.specs.Records.{Rec, recOf}
 use Rattle.rules_definitions.specs.Seen.{Setting, Seen}
-use Rattle.rules_definitions.specs.Rules.{brokenAt}
 use Rattle.rules_definitions.specs.Findings.{found, fieldsFindings}
-use Rattle.rules_definitions.specs.Forms.{isRelaxed, relaxedBy}
-use Rattle.lines_fields.proofs.FieldLaws.{next-inside, next-text, next-fields}
-use Rattle.rules_forms.specs.FieldLeaves.{lowestIn}
-use Rattle.rules_forms.proofs.FieldLaws.{relaxed-is}
+use Rattle.rules_forms.specs.FieldLeaves.{relaxedIf}
 use Rattle.rules_fields.specs.declared.Broken.{Broken}
-use Rattle.rules_fields.specs.declared.Day.{Day}
-use Rattle.rules_fields.specs.declared.Facts.{Facts}
+use Rattle.rules.specs.declared.By.{By}
+use Rattle.rules.specs.declared.Here.{Here}
 use Rattle.rules.specs.Inside.{kept, keep, listed}
-use Rattle.rules_fields.specs.Fields.{broken}
-use Rattle.rules.specs.Fields.{laterAt, judgedFields, Shows, DayIs, Looks, Blocked, Told}
-use Rattle.rules.proofs.Collapse.{other-rest}
-use Rattle.rules.proofs.AnswerNeeds.{plain-either}
-use Rattle.rules.proofs.TurnLaws.{line-on}
+use Rattle.rules.specs.Fields.{Told, Judges, relaxedIn, lastField, lastOf, nextField}
 use Rattle.rules.proofs.KeepLaws.{keep-append}
-use Rattle.rules.proofs.BlankLaws.{ii-blank, blank-run, person-run}
-
--- judge_plain
-pub need-plain : (b : Broken) (x k : ℕ) (line t : Text) (f : ℕ) → b ≡ broken x 0 0 → t ≡ fieldOf line f → k ≡ recordOf line → (k ≡ 4 → ⊥) → x ≡ lowestIn k false f t 0
-    → (s : Setting) (v : Seen) → v .line ≡ recOf line → laterAt s v f ≡ [] → listed b ≡ brokenAt s v f
-need-plain b x k line t f p d e n z s v lv h = plain-either b x p line s v lv k f t false d z (sym e) h (rw (ne-eqb k 4 n))
-
-pub ruleset for-plain = (needs, need-plain)
+use Rattle.rules.proofs.BlankLaws.{first-blank, last-blank, ip-blank, blank-run, blank-skip, fields-on}
 
 -- relaxed_of
-module _ (k : ℕ) (line : Text) (x : Bool) where
-  pub relaxed-ii : x ≡ relaxedBy (fieldsOf line) → k ≡ 4 → x ≡ isRelaxed (recOf line)
-  relaxed-ii e z = e ∙ sym (relaxed-is line)
+module _ (file : Text) (marks : List ℕ) (k : ℕ) (x : Bool) where
+  pub relaxed-ii : (t5 t18 t19 t20 : Text) → t5 ≡ judgedIn file marks 5 → t18 ≡ judgedIn file marks 18 → t19 ≡ judgedIn file marks 19 → t20 ≡ judgedIn file marks 20
+      → x ≡ relaxedIf t5 t18 t19 t20 → k ≡ 4 → x ≡ relaxedIn file marks
+  unfolding relaxedIn
+  relaxed-ii t5 t18 t19 t20 a b c d e z = rw (← a, ← b, ← c, ← d) e
 
-  pub relaxed-no : (k ≡ 4 → ⊥) → k ≡ 4 → x ≡ isRelaxed (recOf line)
+  pub relaxed-no : (k ≡ 4 → ⊥) → k ≡ 4 → x ≡ relaxedIn file marks
   relaxed-no n z = absurd (n z)
+
+  -- judge_field
+  pub relaxed-asked : (k ≡ 4 → x ≡ relaxedIn file marks) → k ≡ 4 → x ≡ relaxedIn file marks
+  relaxed-asked g z = g z
 
 pub ruleset for-relaxed-of = (needs, relaxed-ii, relaxed-no)
 
--- judge_field
-pub relaxed-told : (k : ℕ) (line : Text) (x : Bool) → (k ≡ 4 → x ≡ isRelaxed (recOf line)) → k ≡ 4 → x ≡ isRelaxed (recOf line)
-relaxed-told k line x h z = h z
+module _ (file : Text) (marks : List ℕ) (h : Here) (book : Text) (by : By) (f : ℕ) (b : Broken) where
+  pub field-any : ((book : Text) (by : By) → Judges file marks h book by f b) → Judges file marks h book by f b
+  field-any g = g book by
 
-module _ (today : ℕ) (book : Text) (q : Sections) (place born : ℕ) (line ip head since block own first : Text) (day : Day) (facts : Facts) (f : ℕ) (r : Broken) where
-  abbrev Judges : Type 0
-  Judges = (s : Setting) (v : Seen) → Told today book q place born line ip head since block own first day facts s v → listed r ≡ brokenAt s v f
+  pub field-ip : ((book : Text) → Judges file marks h book by f b) → Judges file marks h book by f b
+  field-ip g = g book
 
-  pub field-iv : ((s : Setting) (v : Seen) → v .line ≡ recOf line → listed r ≡ brokenAt s v f) → Judges
-  field-iv h s v t = h s v (t .shows .line-is)
+pub ruleset for-judge-field = (needs, relaxed-asked, field-any, field-ip)
 
-  pub field-ip : ((s : Setting) (v : Seen) → v .line ≡ recOf line → v .place ≡ place → s .today ≡ today → listed r ≡ brokenAt s v f) → Judges
-  field-ip h s v t = h s v (t .shows .line-is) (t .shows .place-is) (t .looks .today-is)
+-- count_marked
+pub count-none : (m : List ℕ) → length m < 30 → 0 ≡ getD m 29 0
+count-none m h = sym (List·getD-eq-default m 0 (omega arith))
 
-  pub field-ii : (k : ℕ) → k ≡ recordOf line → k ≡ 4
-      → ((s : Setting) (v : Seen) → Looks today book q s → Shows place born line ip v → DayIs day v → Blocked facts line block own first v → listed r ≡ brokenAt s v f) → Judges
-  field-ii k e z h s v t = h s v (t .looks) (t .shows) (t .day-is (rw (sym e ∙ z))) (t .blocked (sym e ∙ z))
+pub ruleset for-count-marked = (needs, count-none)
 
-  pub field-ie : (k : ℕ) → k ≡ recordOf line → k ≡ 5
-      → ((s : Setting) (v : Seen) → Looks today book q s → Shows place born line ip v → DayIs day v → v .head ≡ recOf head → v .antigens ≡ reverse (recs since) → listed r ≡ brokenAt s v f) → Judges
-  field-ie k e z h s v t = h s v (t .looks) (t .shows) (t .day-is (rw (sym e ∙ z))) (t .head-is) (t .antigens-are)
+-- last_field
+module _ (k : ℕ) where
+  pub last-iv : k ≡ 1 → 2 ≡ lastField k
+  unfolding lastField
+  last-iv e = rw e
 
-  abbrev Dated : Type 0
-  Dated = (s : Setting) (v : Seen) → Looks today book q s → Shows place born line ip v → DayIs day v → listed r ≡ brokenAt s v f
+  pub last-ih : k ≡ 2 → 3 ≡ lastField k
+  unfolding lastField
+  last-ih e = rw e
 
-  pub field-in : (k : ℕ) → k ≡ recordOf line → k ≡ 6 → Dated → Judges
-  field-in k e z h s v t = h s v (t .looks) (t .shows) (t .day-is (rw (sym e ∙ z)))
+  pub last-ip : k ≡ 3 → 25 ≡ lastField k
+  unfolding lastField
+  last-ip e = rw e
 
-  pub field-ia : (k : ℕ) → k ≡ recordOf line → k ≡ 7 → Dated → Judges
-  field-ia k e z h s v t = h s v (t .looks) (t .shows) (t .day-is (rw (sym e ∙ z)))
+  pub last-ii : k ≡ 4 → 15 ≡ lastField k
+  unfolding lastField
+  last-ii e = rw e
 
-  pub field-other : (k : ℕ) → k ≡ recordOf line → (k ≡ 1 → ⊥) → (k ≡ 3 → ⊥) → (k ≡ 4 → ⊥) → (k ≡ 5 → ⊥) → (k ≡ 6 → ⊥) → (k ≡ 7 → ⊥)
-      → ((s : Setting) (v : Seen) → v .line ≡ recOf line → laterAt s v f ≡ [] → listed r ≡ brokenAt s v f) → Judges
-  unfolding recOf
-  field-other k e n1 n3 n4 n5 n6 n7 h s v t =
-      let o : v .line .kind ≡ k = ap (λ (l : Rec). l .kind) (t .shows .line-is) ∙ sym e in
-      h s v (t .shows .line-is)
-      (other-rest s v f (λ z. n1 (sym o ∙ z)) (λ z. n3 (sym o ∙ z)) (λ z. n4 (sym o ∙ z)) (λ z. n5 (sym o ∙ z)) (λ z. n6 (sym o ∙ z)) (λ z. n7 (sym o ∙ z)))
+  pub last-ie : k ≡ 5 → 5 ≡ lastField k
+  unfolding lastField
+  last-ie e = rw e
 
-pub ruleset for-judge-field = (needs, relaxed-told, field-iv, field-ip, field-ii, field-ie, field-in, field-ia, field-other)
+  pub last-in : k ≡ 6 → 8 ≡ lastField k
+  unfolding lastField
+  last-in e = rw e
 
--- judged_fields
-module _ (k m n : ℕ) (e : m ≡ n) where
-  pub judged-cut : k ≡ 4 → 15 < m → 15 ≡ judgedFields k n
-  unfolding judgedFields
-  judged-cut d h = rw (d, lt-ltb 15 n (rw (← e) h))
+  pub last-ia : k ≡ 7 → 4 ≡ lastField k
+  unfolding lastField
+  last-ia e = rw e
 
-  pub judged-few : m ≤ 15 → m ≡ judgedFields k n
-  unfolding judgedFields
-  judged-few h = rw (e, le-ltb 15 n (rw (← e) h)) (sym (no (eqb k 4)))
+  pub last-if : k ≡ 8 → 3 ≡ lastField k
+  unfolding lastField
+  last-if e = rw e
+
+  pub last-none : (k ≡ 1 → ⊥) → (k ≡ 2 → ⊥) → (k ≡ 3 → ⊥) → (k ≡ 4 → ⊥) → (k ≡ 5 → ⊥) → (k ≡ 6 → ⊥) → (k ≡ 7 → ⊥) → (k ≡ 8 → ⊥) → 0 ≡ lastField k
+  unfolding lastField
+  last-none a b c d e f g i = rw (ne-eqb k 1 a, ne-eqb k 2 b, ne-eqb k 3 c, ne-eqb k 4 d, ne-eqb k 5 e, ne-eqb k 6 f, ne-eqb k 7 g, ne-eqb k 8 i)
+
+  last-most : lastField k ≤ 25
+  unfolding lastField
+  last-most = go (eqb k 1) (eqb k 2) (eqb k 3) (eqb k 4) (eqb k 5) (eqb k 6) (eqb k 7) (eqb k 8)
     where
-      no : (b : Bool) → cond (b && false) 15 n ≡ n
-      no true = refl
-      no false = refl
+      go : (a b c d e f g h : Bool) → cond a 2 (cond b 3 (cond c 25 (cond d 15 (cond e 5 (cond f 8 (cond g 4 (cond h 3 0))))))) ≤ 25
+      go true b c d e f g h = omega arith
+      go false true c d e f g h = omega arith
+      go false false true d e f g h = omega arith
+      go false false false true e f g h = omega arith
+      go false false false false true f g h = omega arith
+      go false false false false false true g h = omega arith
+      go false false false false false false true h = omega arith
+      go false false false false false false false true = omega arith
+      go false false false false false false false false = omega arith
 
-  pub judged-other : (k ≡ 4 → ⊥) → m ≡ judgedFields k n
-  unfolding judgedFields
-  judged-other h = rw (e, ne-eqb k 4 h)
+pub ruleset for-last-field = (needs, last-iv, last-ih, last-ip, last-ii, last-ie, last-in, last-ia, last-if, last-none)
 
+-- last_of
 module _ (k n : ℕ) where
-  -- they are all, or the line is an II and the last of them is 15
-  judged-most : judgedFields k n ≤ n
-  unfolding judgedFields
-  judged-most = go (eqb k 4) (ltb 15 n) refl
+  module _ (last : ℕ) (e : last ≡ lastField k) where
+    pub last-few : n < last → n ≡ lastOf k n
+    unfolding lastOf
+    last-few h = rw (lt-ltb n (lastField k) (rw (← e) h))
+
+    pub last-all : last ≤ n → last ≡ lastOf k n
+    unfolding lastOf
+    last-all h = rw (le-ltb n (lastField k) (rw (← e) h)) e
+
+  -- they are there, and are no more than the marked ones; no rule is placed on those that are left
+  in-line : lastOf k n ≤ n
+  unfolding lastOf
+  in-line = go (ltb n (lastField k)) refl
     where
-      go : (b c : Bool) → ltb 15 n ≡ c → cond (b && c) 15 n ≤ n
-      go true true e = omega (arith, ltb-true 15 n e)
-      go true false e = omega arith
-      go false c e = omega arith
+      go : (b : Bool) → ltb n (lastField k) ≡ b → cond b n (lastField k) ≤ n
+      go true e = omega arith
+      go false e = ltb-false n (lastField k) e
 
-  judged-past : judgedFields k n < n → (k ≡ 4) × (judgedFields k n ≡ 15)
-  unfolding judgedFields
-  judged-past = go (eqb k 4) (ltb 15 n) refl
+  in-marks : lastOf k n ≤ 25
+  unfolding lastOf
+  in-marks = go (ltb n (lastField k)) refl
     where
-      go : (b c : Bool) → eqb k 4 ≡ b → cond (b && c) 15 n < n → (k ≡ 4) × (cond (b && c) 15 n ≡ 15)
-      go true true e h = (eqb-true k 4 e, refl)
-      go true false e h = absurd (omega arith)
-      go false c e h = absurd (omega arith)
+      go : (b : Bool) → ltb n (lastField k) ≡ b → cond b n (lastField k) ≤ 25
+      go true e = omega (arith, ltb-true n (lastField k) e, last-most k)
+      go false e = last-most k
 
-pub ruleset for-judged-fields = (needs, judged-cut, judged-few, judged-other)
+  past-last : (g : ℕ) → lastOf k n < g → g ≤ n → lastField k < g
+  unfolding lastOf
+  past-last g = go (ltb n (lastField k))
+    where
+      go : (b : Bool) → cond b n (lastField k) < g → g ≤ n → lastField k < g
+      go true h i = absurd (omega arith)
+      go false h i = h
 
--- judge_each
-module _ (k today : ℕ) (book : Text) (q : Sections) (place born : ℕ) (line ip head since block own first : Text) (day : Day) (facts : Facts) (n count : ℕ) (area₀ : Text) where
+pub ruleset for-last-of = (needs, last-few, last-all)
+
+-- next_field
+module _ (k f : ℕ) where
+  pub next-25 : k ≡ 3 → f ≡ 3 → 25 ≡ nextField k f
+  unfolding nextField
+  next-25 d e = rw (d, e)
+
+  pub next-ip : k ≡ 3 → (f ≡ 3 → ⊥) → f + 1 ≡ nextField k f
+  unfolding nextField
+  next-ip d n = rw (d, ne-eqb f 3 n)
+
+  pub next-one : (k ≡ 3 → ⊥) → f + 1 ≡ nextField k f
+  unfolding nextField
+  next-one n = rw (ne-eqb k 3 n)
+
+  next-is : (nextField k f ≡ f + 1) ⊎ ((k ≡ 3) × ((f ≡ 3) × (nextField k f ≡ 25)))
+  unfolding nextField
+  next-is = go (eqb k 3) (eqb f 3) refl refl
+    where
+      go : (a b : Bool) → eqb k 3 ≡ a → eqb f 3 ≡ b → (cond (a && b) 25 (f + 1) ≡ f + 1) ⊎ ((k ≡ 3) × ((f ≡ 3) × (_≡_ {A = ℕ} (cond (a && b) 25 (f + 1)) 25)))
+      go true true d e = inr (eqb-true k 3 d, (eqb-true f 3 e, refl))
+      go true false d e = inl refl
+      go false b d e = inl refl
+
+  -- it is later, and not past the last
+  next-later : f ≤ 25 → (f < nextField k f) × (nextField k f ≤ 26)
+  next-later h = go next-is
+    where
+      go : (nextField k f ≡ f + 1) ⊎ ((k ≡ 3) × ((f ≡ 3) × (nextField k f ≡ 25))) → (f < nextField k f) × (nextField k f ≤ 26)
+      go (inl e) = (omega (arith, e), omega (arith, e))
+      go (inr e) = let a = e .1 .0 in let b = e .1 .1 in (omega (arith, a, b), omega (arith, b))
+
+pub ruleset for-next-field = (needs, next-25, next-ip, next-one)
+
+-- judge_line
+module _ (file : Text) (marks : List ℕ) (h : Here) (book : Text) (by : By) (count : ℕ) (area₀ : Text) where
   -- what is left of a line's findings, from field f on
-  pub record Going (fields at f c : ℕ) (area : Text) : Type 0 where
-    pub all : fields ≡ judgedFields k (length (fieldsOf line))
-    pub kind : k ≡ recordOf line
-    pub bound : count + 3 * length (fieldsOf line) < 2 ^ 63
-    pub from : 1 ≤ f
-    pub few : c + 3 ≤ count + 3 * f
-    pub on : f ≤ fields + 1
+  pub record Going (last f c : ℕ) (area : Text) : Type 0 where
+    pub all : last ≡ lastOf (h .kind) (getD marks 29 0)
+    pub bound : count + 84 < 2 ^ 64
+    pub from : 2 ≤ f
+    pub upto : f ≤ 26
+    pub few : c + 6 ≤ count + 3 * f
     pub size : length area ≡ length area₀
-    -- the field starts there
-    pub cut : fieldsOf (drop at line) ≡ drop (f - 1) (fieldsOf line)
-    pub left : (s : Setting) (v : Seen) → Told today book q place born line ip head since block own first day facts s v
-        → keep (fieldsFindings s n v 1 (length (fieldsOf line))) (kept count area₀) ≡ keep (fieldsFindings s n v f (length (fieldsOf line) + 1 - f)) (kept c area)
+    pub left : (s : Setting) (v : Seen) → Told file marks h book by s v
+        → keep (fieldsFindings s (h .n) v 1 (length (v .line .fields))) (kept count area₀) ≡ keep (fieldsFindings s (h .n) v f (length (v .line .fields) + 1 - f)) (kept c area)
 
-  pub going-start : (fields : ℕ) → fields ≡ judgedFields k (length (fieldsOf line)) → k ≡ recordOf line → count + 3 * length (fieldsOf line) < 2 ^ 63 → Going fields 0 1 count area₀
-  going-start fields e d b =
-      record { all = e; kind = d; bound = b; from = omega arith; few = omega arith; on = omega arith; size = refl; cut = refl; left = λ s v t. rw (add-sub-one (length (fieldsOf line))) }
-    where
-      add-sub-one : (m : ℕ) → m + 1 - 1 ≡ m
-      add-sub-one m = omega arith
+  pub going-start : (last n : ℕ) → last ≡ lastOf (h .kind) n → n ≡ getD marks 29 0 → count + 84 < 2 ^ 64 → Going last 2 count area₀
+  going-start last n e d b =
+      record {
+        all = e ∙ ap (lastOf (h .kind)) d;
+        bound = b;
+        from = omega arith;
+        upto = omega arith;
+        few = omega arith;
+        size = refl;
+        left =
+            λ s v w.
+            let m = length (v .line .fields) in
+            let u : m + 1 - 2 ≡ m - 1 = omega arith in
+            rw (u, blank-skip s v (h .n) 1 1 m (λ g i j. first-blank s v g (omega arith)));
+      }
 
-  module _ (fields at f c : ℕ) (area : Text) (g : Going fields at f c area) where
-    most : fields ≤ length (fieldsOf line)
-    most = rw (g .all) (judged-most k (length (fieldsOf line)))
+  counted : (s : Setting) (v : Seen) → Told file marks h book by s v → getD marks 29 0 ≡ length (v .line .fields)
+  unfolding marksAt recOf
+  counted s v w =
+      ap (λ (m : List ℕ). getD m 29 0) (w .marked)
+      ∙ mark-count (h .at) (lineOf (drop (h .at) file) .text)
+      ∙ ap (λ (l : Rec). length (l .fields)) (sym (w .line-is))
 
-    -- no field is left that a rule is placed on
-    none-left : fields < f → (s : Setting) (v : Seen) → v .line ≡ recOf line → fieldsFindings s n v f (length (fieldsOf line) + 1 - f) ≡ []
-    unfolding recOf
-    none-left h s v e =
-        blank-run s v n f (length (fieldsOf line) + 1 - f)
-        (λ i a b.
-        let p = judged-past k (length (fieldsOf line)) (omega (arith, g .all)) in
-        ii-blank s v i (ap (λ (l : Rec). l .kind) e ∙ sym (g .kind) ∙ p .0) (omega (arith, g .all, p .1)))
+  module _ (last f c : ℕ) (area : Text) (g : Going last f c area) where
+    pub going-few : last < f → c ≤ count + 84
+    going-few i = omega (arith, g .few, g .upto)
 
-    pub going-end : fields < f → (s : Setting) (v : Seen) → Told today book q place born line ip head since block own first day facts s v
-        → kept c area ≡ keep (fieldsFindings s n v 1 (length (fieldsOf line))) (kept count area₀)
+    pub going-end : last < f → (s : Setting) (v : Seen) → Told file marks h book by s v
+        → kept c area ≡ keep (fieldsFindings s (h .n) v 1 (length (v .line .fields))) (kept count area₀)
     unfolding keep
-    going-end h s v t = sym (g .left s v t ∙ rw (none-left h s v (t .shows .line-is)))
+    going-end i s v w =
+        sym
+        (g .left s v w
+        ∙ rw
+        (blank-run s v (h .n) f (length (v .line .fields) + 1 - f)
+        (λ j a b.
+        last-blank s v (h .kind) j (sym (w .kind-is))
+        (past-last (h .kind) (getD marks 29 0) j (omega (arith, g .all)) (omega (arith, counted s v w))))))
 
-    pub going-few : fields < f → c ≤ count + 3 * length (fieldsOf line)
-    going-few h = omega (arith, most, g .few, g .on)
+    module _ (i : f ≤ last) where
+      most : f ≤ 25
+      most = omega (arith, g .all, in-marks (h .kind) (getD marks 29 0))
 
-    module _ (h : f ≤ fields) where
-      before : f - 1 < length (fieldsOf line)
-      before = omega (arith, most, g .from)
-
-      step : suc (f - 1) ≡ f
-      step = omega (arith, g .from)
+      pub going-marked : f ≤ 28
+      going-marked = omega (arith, most)
 
       pub going-fits : c + 3 < 2 ^ 64
-      going-fits = omega (arith, most, g .bound, g .few, g .from)
+      going-fits = omega (arith, g .bound, g .few, most)
 
-      pub going-number : f + 1 < 2 ^ 64
-      going-number = omega (arith, most, g .bound)
+      module _ (n : ℕ) (e : n ≡ nextField (h .kind) f) where
+        pub going-falls : last + 1 - n < last + 1 - f
+        going-falls = omega (arith, e, next-later (h .kind) f most .0)
 
-      -- the field's text
-      module _ (t : Text) (z : t ≡ fieldOf (drop at line) 1) where
-        pub going-inside : at + length t < length line
-        going-inside = rw z (next-inside line at (f - 1) (g .cut) before)
-
-        pub going-text : t ≡ fieldOf line f
-        going-text = z ∙ next-text line at (f - 1) (g .cut) before ∙ ap (fieldOf line) step
-
-        pub going-on : (b : Broken) (d : ℕ) (y : Text) → ((s : Setting) (v : Seen) → Told today book q place born line ip head since block own first day facts s v → listed b ≡ brokenAt s v f)
-            → kept d y ≡ keep (found n f (listed b)) (kept c area) → d ≤ c + 3 → length y ≡ length area → (next : ℕ) → next ≡ at + length t + 1 → Going fields next (f + 1) d y
-        going-on b d y i m l o next nx =
+        pub going-on : (b : Broken) (d : ℕ) (y : Text) → Judges file marks h book by f b → kept d y ≡ keep (found (h .n) f (listed b)) (kept c area) → d ≤ c + 3
+            → length y ≡ length area → Going last n d y
+        going-on b d y j m l o =
+            let p = next-later (h .kind) f most .0 in
+            let q = next-later (h .kind) f most .1 in
             record {
               all = g .all;
-              kind = g .kind;
               bound = g .bound;
-              from = omega arith;
-              few = omega (arith, g .few);
-              on = omega arith;
+              from = omega (arith, g .from, e, p);
+              upto = omega (arith, e, q);
+              few = omega (arith, g .few, e, p);
               size = o ∙ g .size;
-              cut =
-                  let u : f + 1 - 1 ≡ suc (f - 1) = omega (arith, g .from) in
-                  rw (nx, z, u) (next-fields line at (f - 1) (g .cut) before);
-              left =
-                  λ s v w.
-                  let u : length (fieldsOf line) + 1 - (f + 1) ≡ length (fieldsOf line) + 1 - f - 1 = omega arith in
-                  line-on s n v _ f (length (fieldsOf line) + 1 - f) c area (g .left s v w) b d y (omega (arith, most)) (i s v w) m
-                  ∙ rw u;
+              left = λ s v w. step s v w ∙ rw e (skip s v w (next-is (h .kind) f));
             }
+          where
+            step : (s : Setting) (v : Seen) → Told file marks h book by s v
+                → keep (fieldsFindings s (h .n) v 1 (length (v .line .fields))) (kept count area₀) ≡ keep (fieldsFindings s (h .n) v (f + 1) (length (v .line .fields) + 1 - f - 1)) (kept d y)
+            step s v w =
+                g .left s v w
+                ∙ rw (
+                  fields-on s v (h .n) f (length (v .line .fields) + 1 - f) (omega (arith, g .all, counted s v w, in-line (h .kind) (getD marks 29 0))),
+                  keep-append,
+                  ← j .are s v w,
+                  ← m,
+                )
 
-pub ruleset for-judge-each = (needs, going-start, going-end, going-few, going-fits, going-number, going-inside, going-text, going-on)
+            skip : (s : Setting) (v : Seen) → Told file marks h book by s v → (nextField (h .kind) f ≡ f + 1) ⊎ ((h .kind ≡ 3) × ((f ≡ 3) × (nextField (h .kind) f ≡ 25)))
+                → keep (fieldsFindings s (h .n) v (f + 1) (length (v .line .fields) + 1 - f - 1)) (kept d y)
+                ≡ keep (fieldsFindings s (h .n) v (nextField (h .kind) f) (length (v .line .fields) + 1 - nextField (h .kind) f)) (kept d y)
+            skip s v w (inl z) =
+                let u : length (v .line .fields) + 1 - f - 1 ≡ length (v .line .fields) + 1 - (f + 1) = omega arith in
+                rw (z, u)
+            skip s v w (inr z) =
+                let k : v .line .kind ≡ 3 = sym (w .kind-is) ∙ z .0 in
+                let u : length (v .line .fields) + 1 - 3 - 1 - 21 ≡ length (v .line .fields) + 1 - 25 = omega arith in
+                rw (
+                  z .1 .1,
+                  z .1 .0,
+                  blank-skip s v (h .n) 4 21 (length (v .line .fields) + 1 - 3 - 1)
+                      (λ j a b. ip-blank s v j k (λ x. omega arith) (λ x. omega arith) (λ x. omega arith)),
+                  u,
+                )
 
--- judge_one
-pub one-is : (line : Text) (place today f n c d : ℕ) (b : Broken) (x y : Text)
-    → ((s : Setting) (v : Seen) → v .line ≡ recOf line → v .place ≡ place → s .today ≡ today → listed b ≡ brokenAt s v f)
-    → kept d y ≡ keep (found n f (listed b)) (kept c x)
-    → (s : Setting) (v : Seen) → v .line ≡ recOf line → v .place ≡ place → s .today ≡ today → kept d y ≡ keep (found n f (brokenAt s v f)) (kept c x)
-one-is line place today f n c d b x y h e s v lv pv tv = rw (← h s v lv pv tv) e
-
-pub ruleset for-judge-one = (needs, one-is)
-
--- judge_person
-module _ (line : Text) (place today n : ℕ) (long : 25 ≤ length (fieldsOf line)) where
-  -- what is put at a field
-  abbrev Puts : ℕ → ℕ → Text → ℕ → Text → Type 0
-  Puts f c x d y = (s : Setting) (v : Seen) → v .line ≡ recOf line → v .place ≡ place → s .today ≡ today → kept d y ≡ keep (found n f (brokenAt s v f)) (kept c x)
-
-  module _ (count : ℕ) (bound : count + 3 * length (fieldsOf line) < 2 ^ 63) where
-    pub person-first : count + 3 < 2 ^ 64
-    person-first = omega arith
-
-    pub person-next : (a : ℕ) → a ≤ count + 3 → a + 3 < 2 ^ 64
-    person-next a h = omega arith
-
-    pub person-last : (a b : ℕ) → a ≤ count + 3 → b ≤ a + 3 → b + 3 < 2 ^ 64
-    person-last a b h i = omega arith
-
-    pub person-few : (a b r : ℕ) → a ≤ count + 3 → b ≤ a + 3 → r ≤ b + 3 → r ≤ count + 3 * length (fieldsOf line)
-    person-few a b r h i j = omega arith
-
-  pub person-all : (count a b r : ℕ) (w x y z : Text) → recordOf line ≡ 3 → Puts 2 count w a x → Puts 3 a x b y → Puts 25 b y r z
-      → (s : Setting) (v : Seen) → v .line ≡ recOf line → v .place ≡ place → s .today ≡ today
-      → kept r z ≡ keep (fieldsFindings s n v 1 (length (fieldsOf line))) (kept count w)
-  unfolding recOf
-  person-all count a b r w x y z k p2 p3 p25 s v lv pv tv =
-      rw (
-        person-run s v n (length (fieldsOf line)) (ap (λ (l : Rec). l .kind) lv ∙ k) long,
-        keep-append,
-        keep-append,
-        ← p2 s v lv pv tv,
-        ← p3 s v lv pv tv,
-      )
-      (p25 s v lv pv tv)
-
-pub ruleset for-judge-person = (needs, person-first, person-next, person-last, person-few, person-all)
-
--- is_person
-module _ (k n : ℕ) where
-  pub person-yes : (m : ℕ) → m ≡ n → k ≡ 3 → leb 25 m ≡ eqb k 3 && leb 25 n
-  person-yes m e h = rw (h, e)
-
-  pub person-no : (k ≡ 3 → ⊥) → false ≡ eqb k 3 && leb 25 n
-  person-no h = rw (ne-eqb k 3 h)
-
-pub ruleset for-is-person = (needs, person-yes, person-no)
-
--- judge_fields
-module _ (k : ℕ) (line : Text) (r : Bool) (e : r ≡ eqb k 3 && leb 25 (length (fieldsOf line))) (t : r ≡ true) where
-  split : (eqb k 3 ≡ true) × (leb 25 (length (fieldsOf line)) ≡ true)
-  split = both (eqb k 3) (leb 25 (length (fieldsOf line))) (sym e ∙ t)
-
-  pub fields-kind : k ≡ recordOf line → recordOf line ≡ 3
-  fields-kind h = sym h ∙ eqb-true k 3 (split .0)
-
-  pub fields-long : 25 ≤ length (fieldsOf line)
-  fields-long = leb-true 25 (length (fieldsOf line)) (split .1)
-
-pub fields-person : (today : ℕ) (book : Text) (q : Sections) (place born : ℕ) (line ip head since block own first : Text) (day : Day) (facts : Facts) (n c d : ℕ) (x y : Text)
-    → ((s : Setting) (v : Seen) → v .line ≡ recOf line → v .place ≡ place → s .today ≡ today → kept d y ≡ keep (fieldsFindings s n v 1 (length (fieldsOf line))) (kept c x))
-    → (s : Setting) (v : Seen) → Told today book q place born line ip head since block own first day facts s v → kept d y ≡ keep (fieldsFindings s n v 1 (length (fieldsOf line))) (kept c x)
-fields-person today book q place born line ip head since block own first day facts n c d x y h s v t = h s v (t .shows .line-is) (t .shows .place-is) (t .looks .today-is)
-
-pub ruleset for-judge-fields = (needs, fields-kind, fields-long, fields-person)
+pub ruleset for-judge-line = (needs, going-start, going-few, going-end, going-marked, going-fits, going-falls, going-on)

@@ -12,7 +12,7 @@ use Rattle.lines.specs.Records.{Rec, II, IE}
 use Rattle.rules_definitions.specs.Forms.{text, isSound, isGiven, isRelaxed}
 use Rattle.rules_definitions.specs.Seen.{Setting, Seen}
 use Rattle.rules_definitions.specs.Codes.{bookKind, codeIn, isKnown, dayIsSound, isInForce, pairKind, pairIn}
-use Rattle.rules_definitions.specs.Rules.{rule9, rule10, rule11, rule12, rule13, rule15, siteWrong, methodWrong, lacks, sameAntigen, sameCount, allIn, countsSound, setsDiffer}
+use Rattle.rules_definitions.specs.Rules.{rule9, rule10, rule11, rule12, rule13, rule15, partnerOf, siteWrong, methodWrong, lacks, sameAntigen, sameCount, allIn, countsSound, setsDiffer}
 
 -- A LIST BACKWARDS HAS THE SAME ELEMENTS
 
@@ -52,63 +52,48 @@ count-reverse p (x ∷ xs) = rw (reverse-cons, count-append p (reverse xs) (x �
 
 -- THE RULES
 
-or-false : (a b : Bool) → (a || false) && b ≡ a && b
-or-false true b = refl
-or-false false b = refl
-
 module _ (s : Setting) (v : Seen) where
   abbrev L : Rec
   L = v .line
 
+  pub rule9-ii9 : rule9 s v 9 ≡ siteWrong (text L 9) (text L 10) && (isGiven II L 9 && isGiven II L 10)
+  unfolding rule9
+  rule9-ii9 = refl
+
+  pub rule9-ii10 : rule9 s v 10 ≡ methodWrong (text L 9) (text L 10) && (isGiven II L 9 && isGiven II L 10)
+  unfolding rule9
+  rule9-ii10 = refl
+
+  pub rule10-ii9 : rule10 s v 9 ≡ lacks L 9 10 && isRelaxed L
+  unfolding rule10 partnerOf
+  rule10-ii9 = refl
+
+  pub rule10-ii10 : rule10 s v 10 ≡ lacks L 10 9 && isRelaxed L
+  unfolding rule10 partnerOf
+  rule10-ii10 = refl
+
+  pub rule10-ii12 : rule10 s v 12 ≡ lacks L 12 13 && isRelaxed L
+  unfolding rule10 partnerOf
+  rule10-ii12 = refl
+
+  pub rule10-ii13 : rule10 s v 13 ≡ lacks L 13 12 && isRelaxed L
+  unfolding rule10 partnerOf
+  rule10-ii13 = refl
+
+  pub rule13-ii8 : rule13 s v 8 ≡ v .not-first && (countsSound (v .own) && (countsSound (v .first) && setsDiffer (v .own) (v .first)))
+  unfolding rule13
+  rule13-ii8 = refl
+
+  pub rule15-ii8 : rule15 s v 8 ≡ v .repeated
+  unfolding rule15
+  rule15-ii8 = refl
+
   module _ (k : v .line .kind ≡ II) where
-    pub rule9-ii9 : rule9 s v 9 ≡ siteWrong (text L 9) (text L 10) && (isGiven II L 9 && isGiven II L 10)
-    unfolding rule9
-    rule9-ii9 =
-        ap
-        (λ (n : ℕ).
-        ((eqb n II && eqb 9 9 && siteWrong (text L 9) (text L 10)) || (eqb n II && eqb 9 10 && methodWrong (text L 9) (text L 10))) && (isGiven II L 9 && isGiven II L 10)) k
-        ∙ or-false (siteWrong (text L 9) (text L 10)) (isGiven II L 9 && isGiven II L 10)
-
-    pub rule9-ii10 : rule9 s v 10 ≡ methodWrong (text L 9) (text L 10) && (isGiven II L 9 && isGiven II L 10)
-    unfolding rule9
-    rule9-ii10 = rw k
-
-    ten-at : (f : ℕ)
-        → rule10 s v f
-        ≡ ((eqb f 9 && lacks L 9 10) || ((eqb f 10 && lacks L 10 9) || ((eqb f 12 && lacks L 12 13) || (eqb f 13 && lacks L 13 12)))) && isRelaxed L
-    unfolding rule10
-    ten-at f =
-        ap
-        (λ (n : ℕ).
-        ((eqb n II && eqb f 9 && lacks L 9 10)
-        || ((eqb n II && eqb f 10 && lacks L 10 9) || ((eqb n II && eqb f 12 && lacks L 12 13) || (eqb n II && eqb f 13 && lacks L 13 12))))
-        && isRelaxed L) k
-
-    pub rule10-ii9 : rule10 s v 9 ≡ lacks L 9 10 && isRelaxed L
-    rule10-ii9 = ten-at 9 ∙ or-false (lacks L 9 10) (isRelaxed L)
-
-    pub rule10-ii10 : rule10 s v 10 ≡ lacks L 10 9 && isRelaxed L
-    rule10-ii10 = ten-at 10 ∙ or-false (lacks L 10 9) (isRelaxed L)
-
-    pub rule10-ii12 : rule10 s v 12 ≡ lacks L 12 13 && isRelaxed L
-    rule10-ii12 = ten-at 12 ∙ or-false (lacks L 12 13) (isRelaxed L)
-
-    pub rule10-ii13 : rule10 s v 13 ≡ lacks L 13 12 && isRelaxed L
-    rule10-ii13 = ten-at 13
-
     pub rule11-ii11 : rule11 s v 11
         ≡ (isGiven II (v .head) 8 && s .known 1 (codeIn II (v .head) 8)) && (isGiven II L 11 && s .known 3 (codeIn II L 11))
         && (not (s .known 7 (pairIn v 11)) || (dayIsSound v && not (isInForce s v 7 (pairIn v 11))))
     unfolding rule11 isKnown bookKind pairKind
     rule11-ii11 = rw k
-
-    pub rule13-ii8 : rule13 s v 8 ≡ v .not-first && (countsSound (v .own) && (countsSound (v .first) && setsDiffer (v .own) (v .first)))
-    unfolding rule13
-    rule13-ii8 = rw k
-
-    pub rule15-ii8 : rule15 s v 8 ≡ v .repeated
-    unfolding rule15
-    rule15-ii8 = rw k
 
   module _ (k : v .line .kind ≡ IE) where
     pub rule11-ie4 : rule11 s v 4

@@ -1,197 +1,170 @@
--- What each need of the pass over a file asks: a line's turn, and the whole walk.
+-- What each need of one turn of the walk asks.
 -- Assumes nothing.
-use mathlib.Core.Path.{_≡_, refl, sym, ap, _∙_}
-use mathlib.Core.Bool.{Bool, true, false, cond, _&&_}
-use mathlib.Core.Logic.{inl, inr}
-use mathlib.Core.List.{List, [], reverse}
-use Prim.Native.Nat.{ℕ, _+_, _*_, _^_, _≤_, _<_}
+use mathlib.Core.Path.{_≡_, refl, sym, ap, _∙_, subst}
+use mathlib.Core.Bool.{Bool, true, false, not, _&&_}
+use mathlib.Core.List.{List, _∷_, _++_}
+use Prim.Native.Nat.{ℕ, _+_, _^_, _≤_, _<_}
+use native.Mathlib.Numerals.{add-one}
 use native.Mathlib.Omega.{arith}
 use borrow.Author.Needs.{needs}
-use lib.ListN.{length, take, drop}
-use lib.Seq.{take-all}
-use Rattle.house.specs.Text.{Text, any, front, howMany}
-use Rattle.house.proofs.Facts.{of-true}
-use Rattle.lines_fields.specs.declared.LineAt.{LineAt}
-use Rattle.lines_fields.specs.Lines.{LineIs, lineOf, fieldsOf}
-use Rattle.lines.specs.Records.{Rec, IE, IN, isKind, recordOf, recOf, recs}
-use Rattle.lines.specs.Inside.{whole}
-use Rattle.lines_fields.specs.Inside.{part}
-use Rattle.book.specs.declared.Sections.{Sections}
-use Rattle.ledger.specs.Ledger.{Event, foundIn}
-use Rattle.rules_definitions.specs.Blocks.{isInBlock, sameEvent, joins, nearestOf, openAfter, eventOf, isRepeated}
-use Rattle.rules_definitions.specs.Seen.{Setting}
-use Rattle.rules_definitions.specs.Findings.{Finding, fieldsFindings, findingsOf, areaAfter}
-use Rattle.lines.specs.Events.{eventsAt, ascends}
-use Rattle.house.specs.Search.{binarySearch}
-use Rattle.rules_walk.specs.Firsts.{indexOf, foundBefore}
-use Rattle.rules_walk.proofs.FindLaws.{found-named}
-use Rattle.rules_walk.specs.Inside.{recAt}
-use Rattle.rules_walk.proofs.OnceLaws.{once-new}
-use Rattle.rules_walk.proofs.StartLaws.{passed-upto, start-upto, named-upto}
-use Rattle.rules.specs.declared.Known.{Known}
+use lib.ListN.{length, getD, drop}
+use Rattle.house.specs.Text.{Text}
+use Rattle.lines_fields.specs.Lines.{lineLen, lineAt}
+use Rattle.lines_fields.specs.Marks.{marksAt}
+use Rattle.lines_fields.proofs.LineLaws.{line-is, at-text}
+use Rattle.lines.specs.Records.{Rec, recOf, recs}
+use Rattle.lines.proofs.PartLaws.{recs-on}
+use Rattle.ledger.specs.Ledger.{foundIn}
+use Rattle.rules_definitions.specs.Blocks.{begins}
+use Rattle.rules_definitions.specs.Seen.{Setting, Seen, seenAt}
+use Rattle.rules_definitions.specs.Findings.{Finding, fieldsFindings}
 use Rattle.rules.specs.declared.State.{State}
-use Rattle.rules.specs.declared.BlockAt.{BlockAt}
-use Rattle.rules_fields.specs.declared.Day.{Day}
-use Rattle.rules_fields.specs.declared.Facts.{Facts}
+use Rattle.rules.specs.declared.Here.{Here}
+use Rattle.rules.specs.declared.By.{By}
 use Rattle.rules.specs.declared.Turn.{Turn}
-use Rattle.rules.specs.Inside.{Kept, kept, keep}
-use Rattle.rules_fields.specs.Look.{knownBy, forceBy}
+use Rattle.rules_fields.specs.declared.Facts.{Facts}
+use Rattle.rules.specs.Inside.{kept, keep}
 use Rattle.rules.specs.Look.{settingBy}
-use Rattle.rules.specs.Walk.{partOf, span, linesBefore, Holds, BlockIs, Ready, Serves, TurnIs, headAt, dayBy, nextKnown, seenOf, seenWith, factsBy, startState, advanced, restOf}
-use Rattle.rules.specs.Fields.{Looks}
-use Rattle.rules.specs.Judged.{findingsBy}
-use Rattle.rules.proofs.KeepLaws.{keep-all}
-use Rattle.rules.proofs.RuleLaws.{count-reverse}
-use Rattle.rules.proofs.WalkLaws.{inb-is, from-is, repeated-is}
-use Rattle.lines_fields.proofs.LineLaws.{at-past, at-text}
+use Rattle.rules.specs.Fields.{Looks, Told}
+use Rattle.rules.specs.Under.{withRepeated, lineFindingsBy}
+use Rattle.rules.specs.Walk.{ReadIn, lineRec, Holds, LookAt, hereWith, HereIs}
+use Rattle.rules.specs.Advance.{advanced}
+use Rattle.rules.specs.Turned.{Fits, TurnAt, restOf, TurnIs, JudgedIs}
+use Rattle.rules.proofs.KeepLaws.{keep-append}
+use Rattle.rules.proofs.SeenLaws as seen
 use Rattle.rules.proofs.StepLaws.{holds-step}
-use Rattle.rules.proofs.StartStateLaws.{holds-start}
-use Rattle.rules.proofs.RestLaws.{rest-start, rest-end}
-use Rattle.rules.proofs.TurnLaws.{fields-free, turn-goes}
+use Rattle.rules.proofs.ViewLaws.{here, view, number-is, told}
+
+-- begins
+module _ (f : Facts) where
+  pub begins-not : f .inb ≡ false → false ≡ f .inb && not (f .joined)
+  begins-not e = rw e
+
+  module _ (e : f .inb ≡ true) where
+    pub begins-joined : f .joined ≡ true → false ≡ f .inb && not (f .joined)
+    begins-joined j = rw (e, j)
+
+    pub begins-first : f .joined ≡ false → true ≡ f .inb && not (f .joined)
+    begins-first j = rw (e, j)
+
+pub ruleset for-begins = (needs, begins-not, begins-joined, begins-first)
 
 -- turn
-module _ (file : Text) (at : ℕ) (st : State) (h : Holds file at st) (l : LineAt) (e : LineIs file at l) (less : at < length file) (k : ℕ) (ki : k ≡ recordOf (part file at (l .end)))
-    (b : BlockAt) (bi : BlockIs file at st (part file at (l .end)) b) where
-  pub ready : length file ≤ 5000000 → Ready file at l k st b
-  ready m = record { holds = h; line-is = e; less = less; kind-is = ki; block-is = bi; short = m }
+module _ (file : Text) (at : ℕ) (st : State) (h : Holds file at st) (less : at < length file) (index : List ℕ) (ledger : Text) (live : ℕ) (y : Here)
+    (i : HereIs file at st index ledger live y) where
+  next-is : y .next ≡ at + lineLen (drop at file)
+  unfolding hereWith
+  next-is = ap (λ (z : Here). z .next) (i .exact)
 
-  abbrev L : Rec
-  L = recOf (part file at (l .end))
+  rest-on : recs (drop at file) ≡ lineRec file at ∷ recs (drop (y .next) file)
+  unfolding lineAt
+  rest-on =
+      recs-on file at (lineAt at (drop at file)) (line-is file at (lineAt at (drop at file)) refl) less
+      ∙ ap (λ (l : Rec). l ∷ recs (drop (at + lineLen (drop at file)) file)) (ap recOf (at-text file at (lineAt at (drop at file)) (line-is file at (lineAt at (drop at file)) refl)))
+      ∙ ap (λ (n : ℕ). lineRec file at ∷ recs (drop n file)) (sym next-is)
 
-  -- the lines before its block are whole
-  before-ended : whole (take (b .from) file) ≡ true
-  before-ended = rw (from-is file at st h (part file at (l .end)) b bi) (go (isInBlock L && joins L (nearestOf (openAfter (linesBefore file at)))))
-    where
-      go : (t : Bool) → whole (take (cond t (st .run) at) file) ≡ true
-      go true = h .run-ended (omega (arith, h .run-in))
-      go false = h .ended less
+  module _ (s : Setting) where
+    rest-step : restOf s file index at (st .n) ≡ lineFindingsBy s file index (here file at st h less index ledger live y i s) ++ restOf s file index (y .next) (st .n + 1)
+    unfolding restOf
+    rest-step = rw (rest-on, seen.step file at st h less index ledger live y i, add-one)
 
-  -- an earlier block names its event, as the index says it
-  named-in : (index : List ℕ) → index ≡ indexOf file → isRepeated L (linesBefore file at) ≡ b .inb && foundBefore file index (eventOf L) (b .from)
-  unfolding linesBefore
-  named-in index i = repeated-is file at st h (part file at (l .end)) b bi ∙ go (b .inb) (sym (inb-is file at st h (part file at (l .end)) b bi))
-    where
-      go : (t : Bool) → isInBlock L ≡ t
-          → (t && any (λ (p : Rec). isInBlock p && sameEvent L p) (reverse (recs (take (b .from) file)))) ≡ (t && foundBefore file index (eventOf L) (b .from))
-      go true z =
-          named-upto file (b .from) (omega (arith, bi .back)) before-ended L (of-true (isInBlock L) z)
-          ∙ sym (found-named file (eventOf L) (b .from))
-          ∙ ap (λ (xs : List ℕ). foundBefore file xs (eventOf L) (b .from)) (sym i)
-      go false z = refl
+    its-findings : lineFindingsBy s file index (here file at st h less index ledger live y i s)
+        ≡ fieldsFindings s (st .n) (view file at st h less index ledger live y i s) 1 (length (view file at st h less index ledger live y i s .line .fields))
+    unfolding lineFindingsBy withRepeated seenAt
+    its-findings = refl
 
-  -- where no two blocks name one event, none is repeated
-  never : ascends (eventsAt file (indexOf file)) ≡ true → isRepeated L (linesBefore file at) ≡ false
-  unfolding linesBefore recAt
-  never o =
-      let w : whole (take at file) ≡ true = h .ended less in
-      let s = start-upto file at (omega arith) w in
-      once-new file o L (reverse (recs (take at file)))
-      (omega (arith, s), ap recOf (at-text file at l e) ∙ ap (λ (n : ℕ). recOf (lineOf (drop n file) .text)) (sym s), passed-upto file at (omega arith) w)
+    abbrev its : Seen
+    its = view file at st h less index ledger live y i s
 
-  repeated : (index : List ℕ) → Serves file index → isRepeated L (linesBefore file at) ≡ b .inb && foundBefore file index (eventOf L) (b .from)
-  unfolding Serves foundBefore binarySearch
-  repeated index (inl i) = named-in index i
-  repeated index (inr (i, o)) = never o ∙ go (b .inb) (ap (λ (xs : List ℕ). foundBefore file xs (eventOf L) (b .from)) i)
-    where
-      go : (t : Bool) → foundBefore file index (eventOf L) (b .from) ≡ foundBefore file [] (eventOf L) (b .from) → false ≡ t && foundBefore file index (eventOf L) (b .from)
-      go true z = sym z
-      go false z = refl
+    renumbered : fieldsFindings s (st .n) its 1 (length (its .line .fields)) ≡ fieldsFindings s (y .n) its 1 (length (its .line .fields))
+    renumbered = ap (λ (n : ℕ). fieldsFindings s n its 1 (length (its .line .fields))) (sym (number-is file at st h less index ledger live y i s))
 
-  module _ (today : ℕ) (book : Text) (q : Sections) (ledger : Text) (live : ℕ) (index : List ℕ) (i : Serves file index) (facts : Facts)
-      (f : facts ≡ factsBy file index ledger live (part file at (l .end)) b) where
-    abbrev S : Setting
-    S = settingBy today book q (foundIn ledger live)
+    abbrev left : List Finding
+    left = restOf s file index (y .next) (st .n + 1)
 
-    looks : Looks today book q S
-    unfolding settingBy
-    looks = record { today-is = refl; known-is = refl; force-is = refl }
+    pub turn-left : (c d : ℕ) (a z : Text)
+        → kept d z ≡ keep (fieldsFindings s (y .n) (view file at st h less index ledger live y i s) 1 (length (view file at st h less index ledger live y i s .line .fields))) (kept c a)
+        → keep (restOf s file index at (st .n)) (kept c a) ≡ keep (restOf s file index (y .next) (st .n + 1)) (kept d z)
+    turn-left c d a z m =
+        ap (λ (xs : List Finding). keep xs (kept c a)) (rest-step ∙ ap (λ (xs : List Finding). xs ++ left) (its-findings ∙ renumbered))
+        ∙ keep-append (fieldsFindings s (y .n) its 1 (length (its .line .fields))) left (kept c a)
+        ∙ ap (keep left) (sym m)
 
-    masked : (t : Bool) (e : Event) → t ≡ true → (t && foundIn ledger live e) ≡ foundIn ledger live e
-    masked t e z = rw z
+module _ (file : Text) (m₀ : List ℕ) (t : Turn) (g : TurnAt file m₀ t) where
+  h : Holds file (t .at) (t .st)
+  h = g .looks .holds
 
-    -- its findings by what is known of it are its findings
-    same-findings : (n m : ℕ)
-        → fieldsFindings S n (seenWith file at st (part file at (l .end)) (headAt st k (span at (l .end))) (b .from) (front (isKind IE) (recs (drop (l .next) file))) facts) 1 m
-        ≡ fieldsFindings S n (seenOf file at st (part file at (l .end)) (headAt st k (span at (l .end))) b (front (isKind IE) (recs (drop (l .next) file))) (isRepeated L (linesBefore file at)) (S .live (eventOf L))) 1 m
-    unfolding settingBy factsBy
-    same-findings n m =
-        rw (f, repeated index i)
-        (fields-free 0 today (knownBy book q) (forceBy book q) (foundIn ledger live) (foundIn ledger live) (st .place) (part file at (l .end)) (partOf file (st .ip)) (partOf file (headAt st k (span at (l .end)))) (part file (st .since) at)
-        (part file (b .from) at) (front (isKind IE) (recs (drop (l .next) file))) (partOf file (st .first)) (b .inb) (b .joined) (b .inb && foundBefore file index (eventOf L) (b .from))
-        (b .inb && foundIn ledger live (eventOf L)) (foundIn ledger live (eventOf L)) (masked (b .inb) (eventOf L)) n 1 m)
+  less : t .at < length file
+  less = g .looks .less
 
-    pub turn-is : (count c : ℕ) (area after : Text) (st2 : State)
-        → ((s : Setting) → Looks today book q s
-        → kept c after ≡ keep (fieldsFindings s (st .n) (seenWith file at st (part file at (l .end)) (headAt st k (span at (l .end))) (b .from) (front (isKind IE) (recs (drop (l .next) file))) facts) 1 (length (fieldsOf (part file at (l .end))))) (kept count area))
-        → c ≤ 3 * l .next → (day : Day) → day ≡ dayBy k (part file at (l .end)) (st .known) → (known : Known) → known ≡ nextKnown (st .known) k (part file at (l .end)) day
-        → st2 ≡ advanced st k (span at (l .end)) (l .next) b known
-        → TurnIs (settingBy today book q (foundIn ledger live)) file at st count area (record { at = l .next; st = st2; count = c }) after
-    unfolding advanced
-    turn-is count c area after st2 y m day dy known kn z =
-        record {
-          holds = rw (z, kn) (holds-step file at st h l e less k ki b bi day dy);
-          on = at-past file at l e less;
-          upto = omega (arith, e .within);
-          few = m;
-          left = rw z (turn-goes S file at st h l e less k ki b bi count c area after (y S looks ∙ ap (λ (xs : _). keep xs (kept count area)) (same-findings (st .n) (length (fieldsOf (part file at (l .end)))))));
-        }
+  pub turn-looks : LookAt file m₀ (t .at) (t .st)
+  turn-looks = g .looks
 
-pub turn-fits : (file : Text) (at : ℕ) (st : State) → Holds file at st → at < length file → length file ≤ 5000000 → (st .n + 1 < 2 ^ 64) × (st .place + 1 < 2 ^ 64) × (st .«not_immunized» + 1 < 2 ^ 64)
-turn-fits file at st h l m = (omega (arith, h .n-small), omega (arith, h .place-small), omega (arith, h .not-immunized-small))
-
-pub ruleset for-turn = (needs, ready, turn-is, turn-fits)
-
--- walk
-module _ (s : Setting) (file : Text) (area₀ : Text) where
-  -- what is left of a file's findings, from a line on
-  pub record Walking (at : ℕ) (st : State) (found : ℕ) (area : Text) : Type 0 where
-    pub holds : Holds file at st
-    pub within : at ≤ length file
-    pub few : found ≤ 3 * at
-    pub size : length area ≡ length area₀
-    pub left : keep (findingsOf s file) (kept 0 area₀) ≡ keep (restOf s file at (st .n)) (kept found area)
-
-  pub walk-start : (st : State) → st ≡ startState → Walking 0 st 0 area₀
-  walk-start st e =
+  pub turn-fits : Fits t
+  turn-fits =
       record {
-        holds = rw e (holds-start file);
-        within = omega arith;
-        few = omega arith;
-        size = refl;
-        left = rw e (ap (λ (xs : List Finding). keep xs (kept 0 area₀)) (rest-start s file));
+        numbers = (omega (arith, h .n-small, less, g .looks .short), omega (arith, h .place-small, less, g .looks .short), omega (arith, h .not-immunized-small, less, g .looks .short));
+        findings = omega (arith, g .few, less, g .looks .short);
       }
 
-  module _ (at : ℕ) (st : State) (found : ℕ) (area : Text) (w : Walking at st found area) where
-    pub walk-on : (t : Turn) (after : Text) → TurnIs s file at st found area t after → length after ≡ length area → Walking (t .at) (t .st) (t .count) after
-    walk-on t after i y =
-        record { holds = i .holds; within = i .upto; few = i .few; size = y ∙ w .size; left = w .left ∙ i .left }
+  module _ (m : List ℕ) (e : m ≡ marksAt file (t .at)) where
+    pub turn-read : ReadIn file m
+    turn-read =
+        let z : getD m 0 0 ≡ t .at = ap (λ (x : List ℕ). getD x 0 0) e ∙ seen.its-mark file (t .at) less in
+        record { inside = omega (arith, z, less); marked = e ∙ ap (marksAt file) (sym z) }
 
-    module _ (h : length file ≤ at) where
-      all-kept : kept found area ≡ kept (length (findingsOf s file)) (areaAfter area₀ (findingsOf s file))
-      unfolding keep
-      all-kept = sym (w .left ∙ ap (λ (xs : List Finding). keep xs (kept found area)) (rest-end s file at (st .n) h)) ∙ keep-all (findingsOf s file) area₀
+    module _ (index : List ℕ) (ledger : Text) (by : By) (y : Here) (i : HereIs file (t .at) (t .st) index ledger (by .live) y) (book : Text) where
+      abbrev S : Setting
+      S = settingBy (by .today) book (by .sections) (foundIn ledger (by .live))
 
-      pub walk-count : found ≡ length (findingsOf s file)
-      walk-count = ap (λ (k : Kept). k .count) all-kept
+      looks : Looks by book S
+      unfolding settingBy
+      looks = record { today-is = refl; known-is = refl; force-is = refl }
 
-      pub walk-area : area ≡ areaAfter area₀ (findingsOf s file)
-      walk-area = ap (λ (k : Kept). k .area) all-kept
+      lives : S .live ≡ foundIn ledger (by .live)
+      unfolding settingBy
+      lives = refl
 
-      pub walk-not-immunized : st .«not_immunized» ≡ howMany (isKind IN) (recs file)
-      unfolding linesBefore
-      walk-not-immunized =
-          w .holds .not-immunized-is
-          ∙ ap (λ (t : Text). howMany (isKind IN) (reverse (recs t))) (take-all at file h)
-          ∙ count-reverse (isKind IN) (recs file)
+      turned-is : (area after : Text) (c : ℕ) (st2 : State) (f : Bool)
+          → ((s : Setting) (v : Seen) → Told file m y book by s v → kept c after ≡ keep (fieldsFindings s (y .n) v 1 (length (v .line .fields))) (kept (t .count) area))
+          → c ≤ t .count + 84 → st2 ≡ advanced file m (t .st) y → f ≡ y .facts .inb && not (y .facts .joined)
+          → TurnIs (settingBy (by .today) book (by .sections) (foundIn ledger (by .live))) file index t area (record { at = y .next; st = st2; count = c; first = f }) after
+      unfolding advanced
+      turned-is area after c st2 f j k z b =
+          record {
+            holds = rw (z, e) (holds-step file (t .at) (t .st) h less index ledger (by .live) y i);
+            next-is = next-is file (t .at) (t .st) h less index ledger (by .live) y i;
+            on = seen.on file (t .at) (t .st) h less index ledger (by .live) y i;
+            upto = seen.upto file (t .at) (t .st) h less index ledger (by .live) y i;
+            few = omega (arith, g .few, seen.on file (t .at) (t .st) h less index ledger (by .live) y i);
+            left =
+                rw z
+                (turn-left file (t .at) (t .st) h less index ledger (by .live) y i S (t .count) c area after
+                (rw e at (j S (view file (t .at) (t .st) h less index ledger (by .live) y i S)) (told file (t .at) (t .st) h less index ledger (by .live) y i S book by looks lives)));
+            first-is = seen.begins-is file (t .at) (t .st) h less index ledger (by .live) y i f b;
+            before-is = sym (seen.step file (t .at) (t .st) h less index ledger (by .live) y i);
+          }
 
-pub walk-found : (today : ℕ) (file book : Text) (q : Sections) (ledger : Text) (n : ℕ) (k : ℕ) → k ≡ length (findingsOf (settingBy today book q (foundIn ledger n)) file)
-    → k ≡ length (findingsBy today file book q ledger n)
-unfolding findingsBy
-walk-found today file book q ledger n k e = e
+      pub turn-is : (area after : Text) (r : Turn) → JudgedIs file m y t book by area r after
+          → TurnIs (settingBy (by .today) book (by .sections) (foundIn ledger (by .live))) file index t area r after
+      turn-is area after r j =
+          subst (λ (x : Turn). TurnIs S file index t area x after) (sym (j .exact))
+          (turned-is area after (r .count) (advanced file m (t .st) y) (y .facts .inb && not (y .facts .joined)) (j .findings) (j .few) refl refl)
 
-pub walk-left : (today : ℕ) (file book : Text) (q : Sections) (ledger : Text) (n : ℕ) (area after : Text) → after ≡ areaAfter area (findingsOf (settingBy today book q (foundIn ledger n)) file)
-    → after ≡ areaAfter area (findingsBy today file book q ledger n)
-unfolding findingsBy
-walk-left today file book q ledger n area after e = e
+pub ruleset for-turn = (needs, turn-looks, turn-fits, turn-read, turn-is)
 
-pub ruleset for-walk = (needs, walk-start, walk-on, walk-count, walk-area, walk-not-immunized, walk-found, walk-left)
+-- judge_and_advance
+module _ (t : Turn) (g : Fits t) where
+  pub fits-numbers : (t .st .n + 1 < 2 ^ 64) × (t .st .place + 1 < 2 ^ 64) × (t .st .«not_immunized» + 1 < 2 ^ 64)
+  fits-numbers = g .numbers
+
+  pub fits-findings : t .count + 84 < 2 ^ 64
+  fits-findings = g .findings
+
+pub judged-is : (file : Text) (m : List ℕ) (y : Here) (t : Turn) (book : Text) (by : By) (area after : Text) (c : ℕ) (st : State) (f : Bool)
+    → ((s : Setting) (v : Seen) → Told file m y book by s v → kept c after ≡ keep (fieldsFindings s (y .n) v 1 (length (v .line .fields))) (kept (t .count) area))
+    → c ≤ t .count + 84 → st ≡ advanced file m (t .st) y → f ≡ y .facts .inb && not (y .facts .joined)
+    → JudgedIs file m y t book by area (record { at = y .next; st = st; count = c; first = f }) after
+judged-is file m y t book by area after c st f j k p q = record { findings = j; few = k; exact = rw (p, q) }
+
+pub ruleset for-judge-and-advance = (needs, fits-numbers, fits-findings, judged-is)

@@ -1,239 +1,219 @@
--- What each need of the functions on an II's fields asks.
+-- What each need of the function on an II's fields asks.
 -- Assumes nothing.
 use mathlib.Core.Path.{_≡_, refl, sym, ap, _∙_}
-use mathlib.Core.Logic.{inr}
-use mathlib.Core.Bool.{Bool, true, false, not, cond, _&&_}
-use mathlib.Core.List.{List, []}
-use Prim.Native.Nat.{ℕ}
+use mathlib.Core.Logic.{inl, inr}
+use mathlib.Core.Bool.{Bool, true, false, cond, _&&_}
+use mathlib.Core.List.{List}
+use Prim.Native.Nat.{ℕ, _≤_}
+use native.Mathlib.Omega.{arith}
 use borrow.Author.Needs.{needs}
-use Rattle.house.specs.Text.{Text, any, those, isEmpty, pad}
-use Rattle.dates.specs.Dates.{isDate}
-use Rattle.lines_fields.specs.Lines.{fieldOf}
-use Rattle.lines.specs.Records.{Rec, II, isKind, recordOf, recOf, recs}
-use Rattle.book.specs.declared.Sections.{Sections}
+use Rattle.house.specs.Text.{Text, isEmpty, pad, those}
+use Rattle.lines_fields.specs.Marks.{judgedIn}
+use Rattle.lines_fields.specs.Inside.{part}
+use Rattle.lines.specs.Records.{Rec, II, isKind, recs}
 use Rattle.book.specs.Book.{codeText}
-use Rattle.rules_definitions.specs.Forms.{text, table, formOf, isJudged, isOptional, isRelaxed, isGiven, isNumber}
+use Rattle.rules_definitions.specs.Forms.{text, isRelaxed}
 use Rattle.rules_definitions.specs.Seen.{Setting, Seen}
-use Rattle.rules_definitions.specs.Codes.{isSite, isMethod, bookKind, reasonRead, codeRead, codeIn, dayIsSound, isInForce, pairKind, pairIn}
-use Rattle.rules_definitions.specs.Rules.{siteWrong, methodWrong, lacks, countsSound, setsDiffer, sameLot, rule9, rule10, rule11, rule13, rule15, brokenAt}
+use Rattle.rules_definitions.specs.Codes.{isSite, isMethod, bookKind, reasonRead, codeRead, codeIn, pairKind, pairIn}
+use Rattle.rules_definitions.specs.Rules.{countsSound, setsDiffer, sameLot, brokenAt}
 use Rattle.rules_forms.specs.TextLeaves.{valueOf}
 use Rattle.rules_forms.specs.FieldLeaves.{lowest, lowestIn}
+use Rattle.rules_forms.proofs.FieldLaws.{given-in, lacks-in}
+use Rattle.rules_forms.proofs.SoundLaws.{ii-2, ii-6}
 use Rattle.rules_plain.specs.PlainFields.{rule7By, rule6By, rule8By, rule14By}
-use Rattle.rules_forms.proofs.FieldLaws.{text-is, lacks-of}
 use Rattle.rules_plain.proofs.PlainLaws.{rule14-lot-later}
 use Rattle.rules_fields.specs.declared.Broken.{Broken}
-use Rattle.rules_fields.specs.declared.Day.{Day}
-use Rattle.rules_fields.specs.declared.Facts.{Facts}
+use Rattle.rules_fields.specs.Fields.{broken, rules4and5Of, rules16to18At, codeBy, pairField, rule10By, rule11By, rule13By, ii4Type, ii8Vaccine, ii9Site, ii10Method, ii11Reason, ii12Dosage, ii13DosageType}
+use Rattle.rules.specs.declared.By.{By}
+use Rattle.rules.specs.declared.Here.{Here}
 use Rattle.rules.specs.Inside.{listed}
-use Rattle.rules_fields.specs.Fields.{broken, rules4and5Of, rules16to18At, codeBy, rule10By, ii4Type, ii8Vaccine, ii9Site, ii10Method, ii11Reason, ii12Dosage, ii13DosageType}
-use Rattle.rules.specs.Fields.{Shows, DayIs, Looks, Blocked}
-use Rattle.rules.proofs.Collapse.{ii-2, ii-3, ii-6, ii-8, ii-9, ii-10, ii-11, ii-12, ii-13, ii-14, ii-15, ii-rest}
-use Rattle.rules.proofs.AtLaws.{more-at, sound-at, code-more, code-two, site-two, rules16-to-18-ii4}
-use Rattle.rules.proofs.RuleLaws.{any-reverse, rule9-ii9, rule9-ii10, rule10-ii9, rule10-ii10, rule10-ii12, rule10-ii13, rule11-ii11, rule13-ii8, rule15-ii8, rule13-sets-back}
-use Rattle.rules.proofs.LowestLaws.{by-relaxed, by-either, mandatory}
-use Rattle.rules.proofs.AnswerNeeds.{plain-relaxed, rule7-number-at, rule6-uli-at, rule8-date-at}
-use Rattle.rules.proofs.CodeNeeds.{codeOf, code-need, code-read, code-is}
+use Rattle.rules.specs.Fields.{DayIs, Blocked, Told, Judges, relaxedIn, ii8In}
+use Rattle.rules.proofs.ToldLaws.{text-told, relaxed-told, kind-told, judges-rest, judges-at}
+use Rattle.rules.proofs.LowestLaws.{low, one-broken, rules1-and-2-broken, rule7-number-broken, rule6-uli-broken, rule8-date-broken}
+use Rattle.rules.proofs.CodeLaws.{codeOf, rules4-and-5-seen, rule11-pair-seen, rules4-and-5-low, rules4-and-5-broken}
 use Rattle.rules.proofs.ReasonLaws.{reason-code, reason-pair}
-use Rattle.rules.proofs.HeadNeeds.{pair-is, ruled, three-same}
+use Rattle.rules.proofs.HeadNeeds.{three-same}
+use Rattle.rules.proofs.AtLaws.{codeNumber, pairNumber, lackNumber, at-ii-2, at-ii-3, rules16-to-18-ii4, at-ii-6, at-ii-8, at-ii-9, at-ii-10, at-ii-11, at-ii-12, at-ii-13, at-ii-14, at-ii-15, at-ii-rest}
+use Rattle.rules.proofs.RuleLaws.{any-reverse, rule13-sets-back}
 
-masked : (j : Bool) (p : List Rec → Bool) (xs ys : List Rec) → (j ≡ true → ys ≡ xs) → (j && p xs) ≡ (j && p ys)
-masked true p xs ys e = ap p (sym (e refl))
-masked false p xs ys e = refl
+-- judge_ii8
+pub vaccine-in : (file : Text) (h : Here) (book : Text) (by : By) (t own first : Text) (b : Broken) → own ≡ part file (h .next) (h .own)
+    → first ≡ part file (h .first .start) (h .first .end) → b ≡ ii8Vaccine t own first book (by .sections) (h .day) (h .facts) → b ≡ ii8In file h book by t
+vaccine-in file h book by t own first b c d e = rw (← c, ← d) e
 
-module _ (line t ip block own first book : Text) (q : Sections) (place born : ℕ) (day : Day) (today : ℕ) (facts : Facts) (x : Bool) (rx : x ≡ isRelaxed (recOf line)) (e : recordOf line ≡ 4) where
-  module _ (s : Setting) (v : Seen) (ls : Looks today book q s) (sh : Shows place born line ip v) (d : DayIs day v) (bl : Blocked facts line block own first v) where
+pub ruleset for-judge-ii8 = (needs, vaccine-in)
+
+-- what is asked where a fact holds counts only there
+masked : (j : Bool) (F : List Rec → Bool) (xs ys : List Rec) → (j ≡ true → ys ≡ xs) → (j && F xs) ≡ (j && F ys)
+masked true F xs ys h = ap F (sym (h refl))
+masked false F xs ys h = refl
+
+live-only : (t : Text) (i x y : Bool) → (i ≡ true → y ≡ x) → rules16to18At i t x ≡ rules16to18At i t y
+unfolding rules16to18At
+live-only t true x y h = rw (h refl)
+live-only t false x y h = refl
+
+module _ (file : Text) (marks : List ℕ) (h : Here) (book : Text) (by : By) (x : Bool) (rx : x ≡ relaxedIn file marks) (k : h .kind ≡ 4) where
+  module _ (s : Setting) (v : Seen) (w : Told file marks h book by s v) where
+    abbrev L : Rec
+    L = v .line
+
     kind-ii : v .line .kind ≡ II
-    unfolding recOf
-    kind-ii = ap (λ (l : Rec). l .kind) (sh .line-is) ∙ e
+    kind-ii = kind-told file marks h book by s v w 4 k
 
-    text-ii : (f : ℕ) → text (v .line) f ≡ fieldOf line f
-    text-ii f = ap (λ (l : Rec). text l f) (sh .line-is) ∙ text-is line f
+    relaxed-ii : x ≡ isRelaxed (v .line)
+    relaxed-ii = rx ∙ relaxed-told file marks h book by s v w
 
-    -- a code of the book at field f
-    abbrev known : ℕ → ℕ → Bool
-    known f of = s .known of (codeIn II (v .line) f)
+    day-ii : DayIs (h .day) v
+    day-ii = w .day-is (rw kind-ii)
 
-    abbrev out : ℕ → ℕ → Bool
-    out f of = dayIsSound v && not (isInForce s v of (codeIn II (v .line) f))
+    bl : Blocked file h v
+    bl = w .blocked kind-ii
 
-    abbrev R : Bool
-    R = isRelaxed (recOf line)
+    vaccine-ii : (q : Text) → q ≡ part file (h .vaccine .start) (h .vaccine .end) → text (v .head) 8 ≡ q
+    vaccine-ii q c = w .vaccine-is (rw kind-ii) ∙ sym c
 
-    code-low : (f of : ℕ) (c : Text) → codeIn II (v .line) f ≡ codeText of c []
-        → lowest II (recOf line) f (codeOf of c book q day (text (recOf line) f)) ≡ lowest II (v .line) f (rules4and5Of (isEmpty (text (v .line) f)) (known f of) (out f of))
-    code-low f of c re = code-read (lowest II (recOf line) f (codeOf of c book q day (text (recOf line) f))) line s v (sh .line-is) today book q day ls d II f of c re refl
+    low-ii : (f : ℕ) (t : Text) → t ≡ text (v .line) f → (later : Text → ℕ) → lowestIn II x f t (later t) ≡ lowest II (v .line) f (later (text (v .line) f))
+    low-ii f t e later = low II f x L t e (inr relaxed-ii) (later t) ∙ ap (λ (u : Text). lowest II L f (later u)) e
 
-    code-ii : (f of : ℕ) (c : Text) → codeIn II (v .line) f ≡ codeText of c []
-        → codeBy II R f (fieldOf line f) of c book q day ≡ lowest II (v .line) f (rules4and5Of (isEmpty (text (v .line) f)) (known f of) (out f of))
-    code-ii f of c re = by-relaxed II line (fieldOf line f) f refl (codeOf of c book q day) R refl ∙ code-low f of c re
+    lack-ii : (f g : ℕ) (t u : Text) → t ≡ text (v .line) f → u ≡ text (v .line) g → rule10By x t g u ≡ lackNumber (v .line) f g
+    lack-ii f g t u d e = rw (d, e, lacks-in L f g, relaxed-ii)
 
-    -- the lowest rule at field f, by its text
-    low-ii : (f : ℕ) (later : Text → ℕ) → lowestIn II R f (fieldOf line f) (later (fieldOf line f)) ≡ lowest II (v .line) f (later (text (v .line) f))
-    low-ii f later =
-        by-relaxed II line (fieldOf line f) f refl later R refl ∙ ap (λ (l : Rec). lowest II l f (later (text l f))) (sym (sh .line-is))
+    code-ii : (f of : ℕ) (t : Text) → t ≡ text (v .line) f → bookKind II f ≡ of → codeRead II (v .line) f ≡ text (v .line) f
+        → codeBy II x f t t book (by .sections) (h .day) ≡ lowest II (v .line) f (codeNumber s v II f of)
+    code-ii f of t e o r = rules4-and-5-low s v by book (h .day) (w .looks) day-ii II f of t x e (inr relaxed-ii) o r
 
-    lack-ii : (f other : ℕ) → rule10 s v f ≡ (lacks (v .line) f other && isRelaxed (v .line)) → rule10By (recOf line) R (fieldOf line f) other ≡ cond (rule10 s v f) 10 0
-    lack-ii f other z =
-        ap (λ (u : Bool). cond (u && R) 10 0) (lacks-of line (fieldOf line f) f other refl)
-        ∙ ap (λ (l : Rec). cond (lacks l f other && isRelaxed l) 10 0) (sym (sh .line-is))
-        ∙ ap (ruled 10) (sym z)
-
-    at-4 : listed (ii4Type (fieldOf line 4) facts) ≡ brokenAt s v 4
+    at-4 : (t : Text) → t ≡ text (v .line) 4 → listed (ii4Type t (h .facts)) ≡ brokenAt s v 4
     unfolding ii4Type
-    at-4 =
-        three-same _ _ _ _ _ _ (by-either II line (fieldOf line 4) 4 refl (λ (u : Text). 0) false refl)
-        (ap (λ (u : Text). rules16to18At (facts .inb) u (facts .live)) (sym (text-is line 4))) refl
-        ∙ sym (rules16-to-18-ii4 s v kind-ii ∙ rw (sh .line-is, bl .inb-is, bl .live-is))
+    at-4 t e =
+        three-same _ _ _ _ _ _ (low II 4 false L t e (inl refl) 0)
+        (ap (λ (i : Bool). rules16to18At i t (h .facts .live)) (sym (bl .inb-is)) ∙ live-only t (v .in-block) (h .facts .live) (v .live) (bl .live-is) ∙ rw e) refl
+        ∙ sym (rules16-to-18-ii4 s v kind-ii)
 
-    at-8 : listed (ii8Vaccine (fieldOf line 8) own first book q day facts) ≡ brokenAt s v 8
-    unfolding ii8Vaccine codeIn bookKind codeRead
-    at-8 =
-        three-same _ _ _ _ _ _
-        (by-either II line (fieldOf line 8) 8 refl (codeOf 1 (fieldOf line 8) book q day) false refl
-        ∙ code-low 8 1 (fieldOf line 8) (ap (λ (u : Text). codeText 1 u []) (text-ii 8)))
-        (ap (λ (u : Bool). cond u 13 0) (masked (facts .joined) (λ (os : List Rec). countsSound os && (countsSound (recs first) && setsDiffer os (recs first))) (recs own) (v .own) (bl .own-is))
-        ∙ rw (rule13-sets-back (v .own) (recs first), rule13-ii8 s v kind-ii, bl .joined-is, bl .first-is))
-        (rw (rule15-ii8 s v kind-ii, bl .repeated-is))
-        ∙ sym (code-two s v II 8 kind-ii (known 8 1) (out 8 1) (rule13 s v 8) (rule15 s v 8) 13 15 refl refl (ii-8 s v kind-ii))
+    rule13-8 : rule13By (h .facts .joined) (part file (h .next) (h .own)) (part file (h .first .start) (h .first .end))
+        ≡ cond (v .not-first && (countsSound (v .own) && (countsSound (v .first) && setsDiffer (v .own) (v .first)))) 13 0
+    rule13-8 =
+        let own = recs (part file (h .next) (h .own)) in
+        let first = recs (part file (h .first .start) (h .first .end)) in
+        ap (λ (u : Bool). cond u 13 0)
+        (masked (h .facts .joined) (λ (os : List Rec). countsSound os && (countsSound first && setsDiffer os first)) own (v .own) (bl .own-is))
+        ∙ rw (rule13-sets-back (v .own) first, bl .joined-is, bl .first-is)
 
-    site-ii : _≡_ {A = ℕ} (cond (siteWrong (fieldOf line 9) (text (recOf line) 10) && (isGiven II (recOf line) 9 && isGiven II (recOf line) 10)) 9 0) (cond (rule9 s v 9) 9 0)
-    site-ii =
-        ap (λ (u : Text). cond (siteWrong u (text (recOf line) 10) && (isGiven II (recOf line) 9 && isGiven II (recOf line) 10)) 9 0) (sym (text-is line 9))
-        ∙ ap (λ (l : Rec). cond (siteWrong (text l 9) (text l 10) && (isGiven II l 9 && isGiven II l 10)) 9 0) (sym (sh .line-is))
-        ∙ ap (ruled 9) (sym (rule9-ii9 s v kind-ii))
+    at-8 : (t : Text) → t ≡ text (v .line) 8 → listed (ii8In file h book by t) ≡ brokenAt s v 8
+    unfolding ii8Vaccine bookKind codeRead
+    at-8 t e =
+        three-same _ _ _ _ _ _ (rules4-and-5-low s v by book (h .day) (w .looks) day-ii II 8 1 t false e (inl refl) refl refl) rule13-8 (rw (bl .repeated-is))
+        ∙ sym (at-ii-8 s v kind-ii)
 
-    at-9 : listed (ii9Site (recOf line) R (fieldOf line 9)) ≡ brokenAt s v 9
-    unfolding ii9Site
-    at-9 =
-        three-same _ _ _ _ _ _ (low-ii 9 (λ (u : Text). rules4and5Of (isEmpty u) (isSite u) false)) site-ii (lack-ii 9 10 (rule10-ii9 s v kind-ii))
-        ∙ sym (site-two s v 9 kind-ii (isSite (text (v .line) 9)) (rule9 s v 9) (rule10 s v 9) 9 10 refl refl (ii-9 s v kind-ii))
+    module _ (t u : Text) where
+      at-9 : t ≡ text (v .line) 9 → u ≡ text (v .line) 10 → listed (ii9Site x t u) ≡ brokenAt s v 9
+      unfolding ii9Site
+      at-9 d e =
+          three-same _ _ _ _ _ _ (low-ii 9 t d (λ (y : Text). rules4and5Of (isEmpty y) (isSite y) false))
+          (rw (d, e, given-in II L 9, given-in II L 10)) (lack-ii 9 10 t u d e)
+          ∙ sym (at-ii-9 s v kind-ii)
 
-    method-ii : _≡_ {A = ℕ} (cond (methodWrong (text (recOf line) 9) (fieldOf line 10) && (isGiven II (recOf line) 9 && isGiven II (recOf line) 10)) 9 0) (cond (rule9 s v 10) 9 0)
-    method-ii =
-        ap (λ (u : Text). cond (methodWrong (text (recOf line) 9) u && (isGiven II (recOf line) 9 && isGiven II (recOf line) 10)) 9 0) (sym (text-is line 10))
-        ∙ ap (λ (l : Rec). cond (methodWrong (text l 9) (text l 10) && (isGiven II l 9 && isGiven II l 10)) 9 0) (sym (sh .line-is))
-        ∙ ap (ruled 9) (sym (rule9-ii10 s v kind-ii))
+      at-10 : t ≡ text (v .line) 9 → u ≡ text (v .line) 10 → listed (ii10Method x t u) ≡ brokenAt s v 10
+      unfolding ii10Method
+      at-10 d e =
+          three-same _ _ _ _ _ _ (low-ii 10 u e (λ (y : Text). rules4and5Of (isEmpty y) (isMethod y) false))
+          (rw (d, e, given-in II L 9, given-in II L 10)) (lack-ii 10 9 u t e d)
+          ∙ sym (at-ii-10 s v kind-ii)
 
-    at-10 : listed (ii10Method (recOf line) R (fieldOf line 10)) ≡ brokenAt s v 10
-    unfolding ii10Method
-    at-10 =
-        three-same _ _ _ _ _ _ (low-ii 10 (λ (u : Text). rules4and5Of (isEmpty u) (isMethod u) false)) method-ii (lack-ii 10 9 (rule10-ii10 s v kind-ii))
-        ∙ sym (site-two s v 10 kind-ii (isMethod (text (v .line) 10)) (rule9 s v 10) (rule10 s v 10) 9 10 refl refl (ii-10 s v kind-ii))
+      at-12 : t ≡ text (v .line) 12 → u ≡ text (v .line) 13 → listed (ii12Dosage x t u) ≡ brokenAt s v 12
+      unfolding ii12Dosage
+      at-12 d e = three-same _ _ _ _ _ _ (low-ii 12 t d (λ (y : Text). 0)) (lack-ii 12 13 t u d e) refl ∙ sym (at-ii-12 s v kind-ii)
 
-    code-11 : codeIn II (v .line) 11 ≡ codeText 3 (reasonRead (fieldOf line 11)) []
-    unfolding codeIn bookKind codeRead
-    code-11 = ap (λ (u : Text). codeText 3 (reasonRead u) []) (text-ii 11)
+      at-13 : t ≡ text (v .line) 13 → u ≡ text (v .line) 12 → listed (ii13DosageType x t u book (by .sections) (h .day)) ≡ brokenAt s v 13
+      unfolding ii13DosageType bookKind codeRead
+      at-13 d e = three-same _ _ _ _ _ _ (code-ii 13 5 t d refl refl) (lack-ii 13 12 t u d e) refl ∙ sym (at-ii-13 s v kind-ii)
 
-    pair-11 : pairIn v 11 ≡ codeText 7 (text (recOf line) 8) (reasonRead (fieldOf line 11))
-    unfolding pairIn pairKind codeRead
-    pair-11 =
-        ap (λ (n : ℕ). codeText (pairKind n) (text (v .head) 8) (codeRead n (v .line) 11)) kind-ii
-        ∙ ap (λ (h : Rec). codeText 7 (text h 8) (reasonRead (text (v .line) 11))) (bl .head-is)
-        ∙ ap (λ (u : Text). codeText 7 (text (recOf line) 8) (reasonRead u)) (text-ii 11)
+    -- the reason
+    code-11 : (t : Text) → t ≡ text (v .line) 11 → codeBy II x 11 t (pad 2 (reasonRead t)) book (by .sections) (h .day) ≡ lowest II (v .line) 11 (codeNumber s v II 11 3)
+    unfolding bookKind codeIn codeRead
+    code-11 t e =
+        low-ii 11 t e (λ (u : Text). codeOf 3 (pad 2 (reasonRead u)) book (by .sections) (h .day) u)
+        ∙ reason-code book (by .sections) (h .day) L
+        ∙ ap (lowest II L 11) (rules4-and-5-seen s v by book (h .day) (w .looks) day-ii II 11 3 (reasonRead (text L 11)) refl)
 
-    at-11 : listed (ii11Reason (recOf line) R (fieldOf line 11) book q day) ≡ brokenAt s v 11
+    pair-11 : (t q : Text) → t ≡ text (v .line) 11 → text (v .head) 8 ≡ q → rule11By II t (pad 2 (reasonRead t)) q book (by .sections) (h .day) ≡ pairNumber s v II 11 3 7
+    unfolding bookKind pairField pairKind codeIn codeRead pairIn
+    pair-11 t q e he =
+        reason-pair book (by .sections) (h .day) t q
+        ∙ rule11-pair-seen s v by book (h .day) (w .looks) day-ii II 11 3 (reasonRead t) 7 t q e he (rw e)
+        (ap (λ (n : ℕ). codeText (pairKind n) (text (v .head) 8) (codeRead n (v .line) 11)) kind-ii ∙ rw (he, e))
+
+    at-11 : (t q : Text) → t ≡ text (v .line) 11 → text (v .head) 8 ≡ q → listed (ii11Reason x t q book (by .sections) (h .day)) ≡ brokenAt s v 11
     unfolding ii11Reason
-    at-11 =
-        three-same _ _ _ _ _ _
-        (by-relaxed II line (fieldOf line 11) 11 refl (codeOf 3 (pad 2 (reasonRead (fieldOf line 11))) book q day) R refl
-        ∙ reason-code line book q day
-        ∙ code-low 11 3 (reasonRead (fieldOf line 11)) code-11)
-        (reason-pair line book q day 7 (recOf line)
-        ∙ pair-is s v today book q day ls d line line (reasonRead (fieldOf line 11)) (sh .line-is) (bl .head-is) II 11 3 7 code-11 pair-11
-        ∙ sym (ap (ruled 11) (rule11-ii11 s v kind-ii)))
-        refl
-        ∙ sym (code-more s v II 11 kind-ii (known 11 3) (out 11 3) (rule11 s v 11) 11 refl (ii-11 s v kind-ii))
+    at-11 t q e he = three-same _ _ _ _ _ _ (code-11 t e) (pair-11 t q e he) refl ∙ sym (at-ii-11 s v kind-ii)
 
-    at-12 : listed (ii12Dosage (recOf line) R (fieldOf line 12)) ≡ brokenAt s v 12
-    unfolding ii12Dosage
-    at-12 =
-        three-same _ _ _ _ _ _ (low-ii 12 (λ (u : Text). 0)) (lack-ii 12 13 (rule10-ii12 s v kind-ii)) refl
-        ∙ sym (more-at s v II 12 kind-ii (rule10 s v 12) 10 refl (ii-12 s v kind-ii))
+    at-15 : (t q : Text) → t ≡ text (v .line) 15 → q ≡ part file (h .block) (h .at) → listed (broken (lowestIn II x 15 t (rule14By t (recs q))) 0 0) ≡ brokenAt s v 15
+    at-15 t q e c =
+        one-broken s v 15 _ _
+        (low-ii 15 t e (λ (u : Text). rule14By u (recs q))
+        ∙ ap (lowest II L 15)
+        (rule14-lot-later L (text L 15) (recs q) refl
+        ∙ rw (bl .block-is, ← c, any-reverse (sameLot L) (those (isKind II) (recs q)))))
+        (at-ii-15 s v kind-ii)
 
-    at-13 : listed (ii13DosageType (recOf line) R (fieldOf line 13) book q day) ≡ brokenAt s v 13
-    unfolding ii13DosageType codeIn bookKind codeRead
-    at-13 =
-        three-same _ _ _ _ _ _ (code-ii 13 5 (fieldOf line 13) (ap (λ (u : Text). codeText 5 u []) (text-ii 13))) (lack-ii 13 12 (rule10-ii13 s v kind-ii)) refl
-        ∙ sym (code-more s v II 13 kind-ii (known 13 5) (out 13 5) (rule10 s v 13) 10 refl (ii-13 s v kind-ii))
+  module _ (f : ℕ) (b : Broken) (t : Text) (d : t ≡ judgedIn file marks f) where
+    pub need-ii-4 : f ≡ 4 → b ≡ ii4Type t (h .facts) → Judges file marks h book by f b
+    need-ii-4 e p = judges-at file marks h book by f b t d 4 (omega arith) e (λ s v w c. rw p (at-4 s v w t c))
 
-    at-15 : listed (broken (lowestIn II R 15 (fieldOf line 15) (rule14By (fieldOf line 15) (recs block))) 0 0) ≡ brokenAt s v 15
-    at-15 =
-        three-same _ _ _ _ _ _
-        (by-relaxed II line (fieldOf line 15) 15 refl (λ (u : Text). rule14By u (recs block)) R refl
-        ∙ ap (lowest II (recOf line) 15) (rule14-lot-later (recOf line) (text (recOf line) 15) (recs block) refl))
-        refl refl
-        ∙ sym
-        (sound-at s v II 15 kind-ii (any (sameLot (v .line)) (v .block)) 14 refl (ii-15 s v kind-ii)
-        ∙ rw (bl .block-is, any-reverse (sameLot (v .line)) (those (isKind II) (recs block)), sh .line-is))
+    pub need-ii-8 : f ≡ 8 → b ≡ ii8In file h book by t → Judges file marks h book by f b
+    need-ii-8 e p = judges-at file marks h book by f b t d 8 (omega arith) e (λ s v w c. rw p (at-8 s v w t c))
 
-  module _ (f : ℕ) (b : Broken) (dt : t ≡ fieldOf line f) where
-    abbrev pub Right : Type 0
-    Right = (s : Setting) (v : Seen) → Looks today book q s → Shows place born line ip v → DayIs day v → Blocked facts line block own first v → listed b ≡ brokenAt s v f
+    module _ (u : Text) where
+      pub need-ii-9 : f ≡ 9 → u ≡ judgedIn file marks 10 → b ≡ ii9Site x t u → Judges file marks h book by f b
+      need-ii-9 e g p =
+          judges-at file marks h book by f b t d 9 (omega arith) e (λ s v w c. rw p (at-9 s v w t u c (g ∙ text-told file marks h book by s v w 10 (omega arith))))
 
-    at : (n : ℕ) → f ≡ n → t ≡ fieldOf line n
-    at n h = dt ∙ ap (fieldOf line) h
+      pub need-ii-10 : f ≡ 10 → u ≡ judgedIn file marks 9 → b ≡ ii10Method x u t → Judges file marks h book by f b
+      need-ii-10 e g p =
+          judges-at file marks h book by f b t d 10 (omega arith) e (λ s v w c. rw p (at-10 s v w u t (g ∙ text-told file marks h book by s v w 9 (omega arith)) c))
 
-    module _ (y : ℕ) (p : b ≡ broken y 0 0) where
-      pub need-ii-2 : f ≡ 2 → y ≡ lowestIn 4 false 2 t (rule7By (valueOf t) place) → Right
-      unfolding isJudged isOptional formOf table
-      need-ii-2 h z s v ls sh d bl =
-          rw h
-          (rule7-number-at b y p line s v (sh .line-is) 4 place e (sh .place-is) t (at 2 h) z refl (mandatory 4 (v .line) 2 (isNumber (text (v .line) 2)) refl refl refl)
-          (ii-2 s v (kind-ii s v ls sh d bl)))
+      pub need-ii-11 : f ≡ 11 → u ≡ part file (h .vaccine .start) (h .vaccine .end) → b ≡ ii11Reason x t u book (by .sections) (h .day) → Judges file marks h book by f b
+      need-ii-11 e g p = judges-at file marks h book by f b t d 11 (omega arith) e (λ s v w c. rw p (at-11 s v w t u c (vaccine-ii s v w u g)))
 
-      pub need-ii-3 : f ≡ 3 → y ≡ lowestIn 4 false 3 t (rule6By t (recOf ip)) → Right
-      need-ii-3 h z s v ls sh d bl = rw h (rule6-uli-at b y p line ip s v (sh .line-is) (sh .ip-is) 4 e t (at 3 h) refl z (ii-3 s v (kind-ii s v ls sh d bl)))
+      pub need-ii-12 : f ≡ 12 → u ≡ judgedIn file marks 13 → b ≡ ii12Dosage x t u → Judges file marks h book by f b
+      need-ii-12 e g p =
+          judges-at file marks h book by f b t d 12 (omega arith) e (λ s v w c. rw p (at-12 s v w t u c (g ∙ text-told file marks h book by s v w 13 (omega arith))))
 
-      pub need-ii-6 : f ≡ 6 → y ≡ lowestIn 4 false 6 t (rule8By t today born) → Right
-      unfolding isJudged isOptional formOf table
-      need-ii-6 h z s v ls sh d bl =
-          rw h
-          (rule8-date-at b y p line ip s v (sh .line-is) (sh .ip-is) 4 e born (sh .born-is) 6 today (ls .today-is) t (at 6 h) refl z (mandatory 4 (v .line) 6 (isDate (text (v .line) 6)) refl refl refl)
-          (ii-6 s v (kind-ii s v ls sh d bl)))
+      pub need-ii-13 : f ≡ 13 → u ≡ judgedIn file marks 12 → b ≡ ii13DosageType x t u book (by .sections) (h .day) → Judges file marks h book by f b
+      need-ii-13 e g p =
+          judges-at file marks h book by f b t d 13 (omega arith) e (λ s v w c. rw p (at-13 s v w t u c (g ∙ text-told file marks h book by s v w 12 (omega arith))))
 
-      pub need-ii-14 : f ≡ 14 → y ≡ codeBy 4 x 14 t 4 t book q day → Right
-      unfolding codeIn bookKind codeRead
-      need-ii-14 h z s v ls sh d bl =
-          rw h
-          (code-need b y p line s v (sh .line-is) 4 14 4 e (code-is y line s v (sh .line-is) today book q day ls d 4 14 4 t x (at 14 h) refl z (inr rx))
-          (ii-14 s v (kind-ii s v ls sh d bl)))
+    module _ (n : ℕ) (p : b ≡ broken n 0 0) where
+      pub need-ii-2 : f ≡ 2 → n ≡ lowestIn 4 false 2 t (rule7By (valueOf t) (h .place)) → Judges file marks h book by f b
+      need-ii-2 e z =
+          judges-at file marks h book by f b t d 2 (omega arith) e
+          (λ s v w c. rw (p, z) (rule7-number-broken s v t 4 (h .place) c (ii-2 (v .line)) (w .place-is) refl (at-ii-2 s v (kind-ii s v w))))
 
-      pub need-ii-15 : f ≡ 15 → y ≡ lowestIn 4 x 15 t (rule14By t (recs block)) → Right
-      need-ii-15 h z s v ls sh d bl =
-          rw (h, p, z, rx)
-          (ap (λ (u : Text). listed (broken (lowestIn II (isRelaxed (recOf line)) 15 u (rule14By u (recs block))) 0 0)) (at 15 h) ∙ at-15 s v ls sh d bl)
+      pub need-ii-3 : f ≡ 3 → (q : Text) → q ≡ part file (h .uli .start) (h .uli .end) → n ≡ lowestIn 4 false 3 t (rule6By t q) → Judges file marks h book by f b
+      need-ii-3 e q g z =
+          judges-at file marks h book by f b t d 3 (omega arith) e (λ s v w c. rw (p, z) (rule6-uli-broken s v t 4 q c (w .uli-is ∙ sym g) refl (at-ii-3 s v (kind-ii s v w))))
 
-      pub need-ii-rest : (f ≡ 2 → ⊥) → (f ≡ 3 → ⊥) → (f ≡ 4 → ⊥) → (f ≡ 6 → ⊥) → (f ≡ 8 → ⊥) → (f ≡ 9 → ⊥) → (f ≡ 10 → ⊥) → (f ≡ 11 → ⊥) → (f ≡ 12 → ⊥) → (f ≡ 13 → ⊥) → (f ≡ 14 → ⊥) → (f ≡ 15 → ⊥)
-          → y ≡ lowestIn 4 x f t 0 → Right
-      need-ii-rest n2 n3 n4 n6 n8 n9 n10 n11 n12 n13 n14 n15 z s v ls sh d bl =
-          plain-relaxed b y p line s v (sh .line-is) 4 f t x dt z e (ii-rest s v f (kind-ii s v ls sh d bl) n2 n3 n4 n6 n8 n9 n10 n11 n12 n13 n14 n15) rx
+      pub need-ii-6 : f ≡ 6 → n ≡ lowestIn 4 false 6 t (rule8By t (by .today) (h .born)) → Judges file marks h book by f b
+      need-ii-6 e z =
+          judges-at file marks h book by f b t d 6 (omega arith) e
+          (λ s v w c.
+          rw (p, z) (rule8-date-broken s v t 4 6 (by .today) (h .born) c (ii-6 (v .line)) (w .looks .today-is) (w .born-is) refl (at-ii-6 s v (kind-ii s v w))))
 
-    -- the field's text in place of t
-    module _ (n : ℕ) (h : f ≡ n) (of : Bool → Text → Broken) (p : b ≡ of x t) where
-      by-text : (s : Setting) (v : Seen) → listed (of (isRelaxed (recOf line)) (fieldOf line n)) ≡ brokenAt s v n → listed b ≡ brokenAt s v f
-      by-text s v z =
-          rw (h, p)
-          (ap (λ (u : Text). listed (of x u)) (at n h) ∙ ap (λ (r : Bool). listed (of r (fieldOf line n))) rx ∙ z)
+      pub need-ii-14 : f ≡ 14 → n ≡ codeBy 4 x 14 t t book (by .sections) (h .day) → Judges file marks h book by f b
+      unfolding bookKind codeRead
+      need-ii-14 e z =
+          judges-at file marks h book by f b t d 14 (omega arith) e
+          (λ s v w c.
+          rw (p, z) (rules4-and-5-broken s v by book (h .day) (w .looks) (day-ii s v w) 4 14 4 x t c (inr (relaxed-ii s v w)) refl refl (at-ii-14 s v (kind-ii s v w))))
 
-    pub need-ii-4 : f ≡ 4 → b ≡ ii4Type t facts → Right
-    need-ii-4 h p s v ls sh d bl = by-text 4 h (λ (r : Bool) (u : Text). ii4Type u facts) p s v (at-4 s v ls sh d bl)
+      pub need-ii-15 : f ≡ 15 → (q : Text) → q ≡ part file (h .block) (h .at) → n ≡ lowestIn 4 x 15 t (rule14By t (recs q)) → Judges file marks h book by f b
+      need-ii-15 e q g z = judges-at file marks h book by f b t d 15 (omega arith) e (λ s v w c. rw (p, z) (at-15 s v w t q c g))
 
-    pub need-ii-8 : f ≡ 8 → b ≡ ii8Vaccine t own first book q day facts → Right
-    need-ii-8 h p s v ls sh d bl = by-text 8 h (λ (r : Bool) (u : Text). ii8Vaccine u own first book q day facts) p s v (at-8 s v ls sh d bl)
-
-    pub need-ii-9 : f ≡ 9 → b ≡ ii9Site (recOf line) x t → Right
-    need-ii-9 h p s v ls sh d bl = by-text 9 h (ii9Site (recOf line)) p s v (at-9 s v ls sh d bl)
-
-    pub need-ii-10 : f ≡ 10 → b ≡ ii10Method (recOf line) x t → Right
-    need-ii-10 h p s v ls sh d bl = by-text 10 h (ii10Method (recOf line)) p s v (at-10 s v ls sh d bl)
-
-    pub need-ii-11 : f ≡ 11 → b ≡ ii11Reason (recOf line) x t book q day → Right
-    need-ii-11 h p s v ls sh d bl = by-text 11 h (λ (r : Bool) (u : Text). ii11Reason (recOf line) r u book q day) p s v (at-11 s v ls sh d bl)
-
-    pub need-ii-12 : f ≡ 12 → b ≡ ii12Dosage (recOf line) x t → Right
-    need-ii-12 h p s v ls sh d bl = by-text 12 h (ii12Dosage (recOf line)) p s v (at-12 s v ls sh d bl)
-
-    pub need-ii-13 : f ≡ 13 → b ≡ ii13DosageType (recOf line) x t book q day → Right
-    need-ii-13 h p s v ls sh d bl = by-text 13 h (λ (r : Bool) (u : Text). ii13DosageType (recOf line) r u book q day) p s v (at-13 s v ls sh d bl)
+      pub need-ii-rest : f ≤ 28 → (f ≡ 2 → ⊥) → (f ≡ 3 → ⊥) → (f ≡ 4 → ⊥) → (f ≡ 6 → ⊥) → (f ≡ 8 → ⊥) → (f ≡ 9 → ⊥) → (f ≡ 10 → ⊥) → (f ≡ 11 → ⊥) → (f ≡ 12 → ⊥)
+          → (f ≡ 13 → ⊥) → (f ≡ 14 → ⊥) → (f ≡ 15 → ⊥) → n ≡ lowestIn 4 x f t 0 → Judges file marks h book by f b
+      need-ii-rest l n2 n3 n4 n6 n8 n9 n10 n11 n12 n13 n14 n15 z =
+          judges-rest file marks h book by f b t d l
+          (λ s v w c.
+          rw (p, z) (rules1-and-2-broken s v t 4 f x c (inr (relaxed-ii s v w)) (at-ii-rest s v f (kind-ii s v w) n2 n3 n4 n6 n8 n9 n10 n11 n12 n13 n14 n15)))
 
 pub ruleset for-judge-ii = (needs, need-ii-2, need-ii-3, need-ii-4, need-ii-6, need-ii-8, need-ii-9, need-ii-10, need-ii-11, need-ii-12, need-ii-13, need-ii-14, need-ii-15, need-ii-rest)

@@ -1,77 +1,109 @@
--- Working definitions: what a function that judges a field is told. No public contract rests on this page.
+-- Working definitions: what a function that judges a field is told, and what it says. No public contract rests on this page.
 -- Assumes nothing.
-use Prim.Native.Nat.{ℕ}
+use Prim.Native.Nat.{ℕ, _+_, _≤_}
 use mathlib.Core.Path.{_≡_}
-use mathlib.Core.Bool.{true, cond, _&&_}
+use mathlib.Core.Bool.{Bool, true, cond, _&&_}
 use mathlib.Core.List.{List, reverse}
-use lib.ListN.{drop}
+use lib.ListN.{length, drop}
 use lib.Dec.{eqb, ltb}
 use Rattle.house.specs.Text.{Text, those, within}
-use Rattle.lines.specs.Records.{Rec, II, IE, IN, IA, isKind, recordOf, recOf, recs}
-use Rattle.book.specs.declared.Sections.{Sections}
-use Rattle.rules_definitions.specs.Forms.{text, isSound}
+use Rattle.lines_fields.specs.Lines.{lineOf}
+use Rattle.lines_fields.specs.Marks.{marksAt, judgedIn}
+use Rattle.lines_fields.specs.Inside.{part}
+use Rattle.lines.specs.Records.{IV, IH, IP, II, IE, IN, IA, IF, isKind, recOf, recs}
+use Rattle.rules_definitions.specs.Forms.{text}
 use Rattle.rules_definitions.specs.Seen.{Setting, Seen}
 use Rattle.rules_definitions.specs.Codes.{dayIsSound, recordDay}
-use Rattle.rules_definitions.specs.Rules.{rulesOf, brokenBy}
-use Rattle.rules_forms.specs.TextLeaves.{valueOf}
+use Rattle.rules_definitions.specs.Rules.{Numbered, rulesAt, brokenBy, brokenAt}
+use Rattle.rules_forms.specs.FieldLeaves.{relaxedIf}
 use Rattle.rules_plain.specs.PlainFields.{bornOf}
+use Rattle.rules_fields.specs.declared.Broken.{Broken}
 use Rattle.rules_fields.specs.declared.Day.{Day}
-use Rattle.rules_fields.specs.declared.Facts.{Facts}
-use Rattle.rules_fields.specs.Look.{knownBy, forceBy}
+use Rattle.book.specs.LookUp.{knownBy, inForceBy}
+use Rattle.rules_fields.specs.Fields.{ii8Vaccine}
+use Rattle.rules.specs.declared.By.{By}
+use Rattle.rules.specs.declared.Here.{Here}
+use Rattle.rules.specs.Inside.{listed}
 
--- those of the rules after the first two that are broken at a field
+-- a rule after the first two
+abbrev pub isLater : Numbered → Bool
+isLater x = ltb 2 (x .number)
+
+-- those of the later rules that are placed at a field and broken there
 unfoldable pub laterAt : Setting → Seen → ℕ → List ℕ
-laterAt s v f = brokenBy s v f (drop 2 (rulesOf s))
+laterAt s v f = brokenBy s v f (those isLater (rulesAt s (v .line .kind) f))
 
--- how many of n fields of a record of kind k are judged: no rule is placed after II 15
-unfoldable pub judgedFields : ℕ → ℕ → ℕ
-judgedFields k n = cond (eqb k II && ltb 15 n) 15 n
-
--- the day that field f of a record gives
-abbrev pub dayFrom : ℕ → Rec → ℕ → Day
-dayFrom kind head f = record { sound = isSound kind head f; number = valueOf (text head f) }
-
-abbrev pub dayIn : ℕ → Text → ℕ → Day
-dayIn kind head f = dayFrom kind (recOf head) f
-
--- the day of the record that a line of kind k belongs to: an II's or an IE's of II 6, any other's of IN 5
-unfoldable pub headDay : ℕ → Text → Day
-headDay k head = cond (eqb k II) (dayIn II head 6) (cond (eqb k IE) (dayIn II head 6) (dayIn IN head 5))
-
--- What a function is told of what is seen from a line, and of what the file is judged by
-
-pub record Shows (place born : ℕ) (line ip : Text) (v : Seen) : Type 0 where
-  pub place-is : v .place ≡ place
-  pub born-is : bornOf (v .ip) ≡ born
-  pub line-is : v .line ≡ recOf line
-  pub ip-is : v .ip ≡ recOf ip
+-- WHAT IS TOLD OF WHAT IS SEEN FROM A LINE, AND OF WHAT THE FILE IS JUDGED BY
 
 -- the record's day
 pub record DayIs (day : Day) (v : Seen) : Type 0 where
   pub sound-is : dayIsSound v ≡ day .sound
   pub number-is : day .sound ≡ true → recordDay v ≡ day .number
 
-pub record Looks (today : ℕ) (book : Text) (q : Sections) (s : Setting) : Type 0 where
-  pub today-is : s .today ≡ today
-  pub known-is : s .known ≡ knownBy book q
-  pub force-is : s .in-force ≡ forceBy book q
+-- today, and what look-ups in the book say
+pub record Looks (by : By) (book : Text) (s : Setting) : Type 0 where
+  pub today-is : s .today ≡ by .today
+  pub known-is : s .known ≡ knownBy book (by .sections)
+  pub force-is : s .in-force ≡ inForceBy book (by .sections)
 
 -- what an II shows of its block: the earlier II lines of it, its own IE lines where it joins the block, and those of its first II
-pub record Blocked (facts : Facts) (line block own first : Text) (v : Seen) : Type 0 where
-  pub head-is : v .head ≡ recOf line
-  pub inb-is : v .in-block ≡ facts .inb
-  pub joined-is : v .not-first ≡ facts .joined
-  pub block-is : v .block ≡ reverse (those (isKind II) (recs block))
-  pub own-is : facts .joined ≡ true → v .own ≡ recs own
-  pub first-is : v .first ≡ reverse (recs first)
-  pub repeated-is : v .repeated ≡ facts .repeated
-  pub live-is : v .live ≡ facts .live
+pub record Blocked (file : Text) (h : Here) (v : Seen) : Type 0 where
+  pub inb-is : v .in-block ≡ h .facts .inb
+  pub joined-is : v .not-first ≡ h .facts .joined
+  pub block-is : v .block ≡ reverse (those (isKind II) (recs (part file (h .block) (h .at))))
+  pub own-is : h .facts .joined ≡ true → v .own ≡ recs (part file (h .next) (h .own))
+  pub first-is : v .first ≡ reverse (recs (part file (h .first .start) (h .first .end)))
+  pub repeated-is : v .repeated ≡ h .facts .repeated
+  pub live-is : v .in-block ≡ true → v .live ≡ h .facts .live
 
 -- all that a line's fields are judged by
-pub record Told (today : ℕ) (book : Text) (q : Sections) (place born : ℕ) (line ip head since block own first : Text) (day : Day) (facts : Facts) (s : Setting) (v : Seen) : Type 0 where
-  pub looks : Looks today book q s
-  pub shows : Shows place born line ip v
-  pub day-is : within II IA (recordOf line) ≡ true → DayIs day v
-  pub head-is : v .head ≡ recOf head
-  pub antigens-are : v .antigens ≡ reverse (recs since)
-  pub blocked : recordOf line ≡ II → Blocked facts line block own first v
+pub record Told (file : Text) (marks : List ℕ) (h : Here) (book : Text) (by : By) (s : Setting) (v : Seen) : Type 0 where
+  pub looks : Looks by book s
+  pub inside : h .at ≤ length file
+  pub marked : marks ≡ marksAt file (h .at)
+  pub line-is : v .line ≡ recOf (lineOf (drop (h .at) file) .text)
+  pub kind-is : h .kind ≡ v .line .kind
+  pub place-is : v .place ≡ h .place
+  pub uli-is : text (v .ip) 3 ≡ part file (h .uli .start) (h .uli .end)
+  pub born-is : bornOf (v .ip) ≡ h .born
+  pub day-is : within II IA (v .line .kind) ≡ true → DayIs (h .day) v
+  pub vaccine-is : within II IE (v .line .kind) ≡ true → text (v .head) 8 ≡ part file (h .vaccine .start) (h .vaccine .end)
+  pub antigens-are : v .antigens ≡ reverse (recs (part file (h .since) (h .at)))
+  pub blocked : v .line .kind ≡ II → Blocked file h v
+
+-- WHAT IS SAID OF A FIELD
+
+-- r are the rules that are broken at field f
+pub record Judges (file : Text) (marks : List ℕ) (h : Here) (book : Text) (by : By) (f : ℕ) (r : Broken) : Type 0 where
+  pub are : (s : Setting) (v : Seen) → Told file marks h book by s v → listed r ≡ brokenAt s v f
+
+-- the event of the II with these marks is relaxed
+unfoldable pub relaxedIn : Text → List ℕ → Bool
+relaxedIn file marks = relaxedIf (judgedIn file marks 5) (judgedIn file marks 18) (judgedIn file marks 19) (judgedIn file marks 20)
+
+-- what is broken at II 8 with this text
+abbrev pub ii8In : Text → Here → Text → By → Text → Broken
+ii8In file h book by t = ii8Vaccine t (part file (h .next) (h .own)) (part file (h .first .start) (h .first .end)) book (by .sections) (h .day) (h .facts)
+
+-- THE FIELDS OF A LINE ONE AFTER THE OTHER
+
+-- the last field of a record of kind k that a rule is placed on
+unfoldable pub lastField : ℕ → ℕ
+lastField k =
+    cond (eqb k IV) 2
+    (cond (eqb k IH) 3
+    (cond (eqb k IP) 25
+    (cond (eqb k II) 15
+    (cond (eqb k IE) 5
+    (cond (eqb k IN) 8
+    (cond (eqb k IA) 4
+    (cond (eqb k IF) 3
+    0)))))))
+
+-- the last that is judged, of a line that has so many
+unfoldable pub lastOf : ℕ → ℕ → ℕ
+lastOf k n = cond (ltb n (lastField k)) n (lastField k)
+
+-- the field that is judged after field f: of an IP none between 3 and 25
+unfoldable pub nextField : ℕ → ℕ → ℕ
+nextField k f = cond (eqb k IP && eqb f 3) 25 (f + 1)

@@ -2,17 +2,23 @@
 -- Assumes nothing.
 use Prim.Native.Nat.{ℕ}
 use mathlib.Core.Bool.{cond}
-use mathlib.Core.List.{List}
+use mathlib.Core.Path.{_≡_}
+use mathlib.Core.List.{List, []}
+use lib.Dec.{leb}
 use lib.ListN.{length}
 use Rattle.house.specs.Text.{Text, howMany}
 use Rattle.lines.specs.Records.{IN, isKind, recs}
 use Rattle.book.specs.declared.Sections.{Sections}
 use Rattle.ledger.specs.Ledger.{foundIn}
+use Rattle.rules_definitions.specs.Seen.{Setting}
 use Rattle.rules_definitions.specs.Findings.{Finding, findingsOf, areaAfter}
-use Rattle.rules_walk.specs.Firsts.{firstsOf, canBuild}
+use Rattle.rules_walk.specs.Firsts.{fileMost, firstsOf, over, canBuild, builtIn}
 use Rattle.rules.specs.declared.Judged.{Judged}
+use Rattle.rules.specs.declared.Walked.{Walked}
+use Rattle.rules.specs.declared.By.{By}
 use Rattle.rules.specs.declared.Judged.the-variants.{Done, TooMany}
 use Rattle.rules.specs.Look.{settingBy}
+use Rattle.rules.specs.Under.{findingsUnder}
 
 -- the findings of a file, by what look-ups find in the book's sections and in the first n slots of the ledger
 unfoldable pub findingsBy : ℕ → Text → Text → Sections → Text → ℕ → List Finding
@@ -23,6 +29,32 @@ unfoldable pub judgedOf : ℕ → Text → Text → Sections → Text → ℕ �
 judgedOf today file book q ledger n room =
     cond (canBuild file room) (Done (length (firstsOf file)) (length (findingsBy today file book q ledger n)) (howMany (isKind IN) (recs file))) TooMany
 
--- the findings area after; as it was where the room does not do
+-- the findings area after: as it was where the file is too long; where its blocks are too many for the room, with all findings but those of
+-- rule 15
 unfoldable pub judgedArea : ℕ → Text → Text → Sections → Text → ℕ → ℕ → Text → Text
-judgedArea today file book q ledger n room area = cond (canBuild file room) (areaAfter area (findingsBy today file book q ledger n)) area
+judgedArea today file book q ledger n room area =
+    cond (canBuild file room) (areaAfter area (findingsBy today file book q ledger n))
+    (cond (leb (length file) fileMost) (areaAfter area (findingsUnder (settingBy today book q (foundIn ledger n)) file [])) area)
+
+-- what a walk over a file leaves, events named before being looked up in an index: how many findings, and the area
+pub record WalkIs (s : Setting) (file : Text) (index : List ℕ) (area : Text) (r : ℕ) (after : Text) : Type 0 where
+  pub count-is : r ≡ length (findingsUnder s file index)
+  pub area-is : after ≡ areaAfter area (findingsUnder s file index)
+
+-- the same where no event is looked up; and the first places of its blocks are written to the front of an area
+pub record GatherIs (s : Setting) (file area : Text) (old : List ℕ) (r : Walked) (after : Text) (index : List ℕ) : Type 0 where
+  pub walk-is : WalkIs s file [] area (r .findings) after
+  pub blocks-are : r .blocks ≡ length (firstsOf file)
+  pub not-immunized-is : r .«not_immunized» ≡ howMany (isKind IN) (recs file)
+  pub index-is : index ≡ over (firstsOf file) old
+
+-- what judging a file that is not too long leaves: its answer, the room and the area
+pub record Judging (file book : Text) (by : By) (ledger : Text) (room : List ℕ) (area : Text) (r : Judged) (index : List ℕ) (after : Text) : Type 0 where
+  pub answer : r ≡ judgedOf (by .today) file book (by .sections) ledger (by .live) (length room)
+  pub room-is : index ≡ builtIn file room
+  pub area-is : after ≡ judgedArea (by .today) file book (by .sections) ledger (by .live) (length room) area
+
+-- the same, once a walk has gathered its blocks in the room and left the area so
+pub record Sorting (file book : Text) (by : By) (ledger : Text) (w : Walked) (new : List ℕ) (left : Text) (r : Judged) (index : List ℕ) (after : Text) : Type 0 where
+  pub judging : (room : List ℕ) (area : Text) → GatherIs (settingBy (by .today) book (by .sections) (foundIn ledger (by .live))) file area room w left new
+      → Judging file book by ledger room area r index after

@@ -3,7 +3,10 @@
 -- Assumes nothing.
 pub mod Judged
 pub mod Inside
+pub mod Under
 pub mod Walk
+pub mod Advance
+pub mod Turned
 pub mod Look
 pub mod Fields
 -- Of the crates below: what the rules, blocks and findings are, and the index of blocks

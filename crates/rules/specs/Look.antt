@@ -7,7 +7,7 @@ use Rattle.house.specs.Text.{Text}
 use Rattle.book.specs.declared.Sections.{Sections}
 use Rattle.ledger.specs.Ledger.{Event}
 use Rattle.rules_definitions.specs.Seen.{Setting}
-use Rattle.rules_fields.specs.Look.{knownBy, forceBy}
+use Rattle.book.specs.LookUp.{knownBy, inForceBy}
 
 unfoldable pub settingBy : ℕ → Text → Sections → (Event → Bool) → Setting
-settingBy today s q live = record { profile = 0; today = today; known = knownBy s q; in-force = forceBy s q; live = live }
+settingBy today s q live = record { profile = 0; today = today; known = knownBy s q; in-force = inForceBy s q; live = live }

@@ -1,22 +1,29 @@
-// The rules that are broken at a field with text t, by the kind of its record and its number.
-use book::ANTIGEN;
-use book::REASON_NOT;
-use book::Sections;
+// The rules that are broken at a field, by the kind of its record and its number. Each text is a part of the file that was found before.
+use crate::By;
+use crate::Here;
 use lines::IA;
 use lines::IE;
 use lines::IN;
 use lines::IP;
 use lines::IV;
+use lines_fields::Span;
+use lines_fields::judged;
+use lines_fields::part;
 use rules_fields::Broken;
-use rules_fields::Day;
+use rules_fields::code_field;
+use rules_fields::ie4_antigen;
+use rules_forms::rules1_and_2;
+use rules_plain::field2_number;
+use rules_plain::field3_uli;
+use rules_plain::ii6_in5_date;
+use rules_plain::ip25_birth;
+use rules_plain::iv2_version;
 ghost use mathlib.Core.Path.{_≡_};
-ghost use mathlib.Core.List.{[], reverse};
-ghost use Rattle.lines_fields.specs.Lines.{fieldOf};
-ghost use Rattle.lines.specs.Records.{recordOf, recOf, recs};
-ghost use Rattle.rules_definitions.specs.Seen.{Setting, Seen};
-ghost use Rattle.rules_definitions.specs.Rules.{brokenAt};
-ghost use Rattle.rules.specs.Inside.{listed};
-ghost use Rattle.rules.specs.Fields.{Shows, DayIs, Looks, laterAt};
+ghost use Prim.Native.Nat.{_≤_};
+ghost use Rattle.house.specs.Text.{Text};
+ghost use Rattle.lines_fields.specs.Inside.{part};
+ghost use Rattle.rules.specs.declared.By.{By};
+ghost use Rattle.rules.specs.Fields.{Judges};
 
 // One rule, or none.
 pub(crate) fn one(a: u8) -> Broken
@@ -25,115 +32,122 @@ pub(crate) fn one(a: u8) -> Broken
     Broken { a, b: 0, c: 0 }
 }
 
-// Field f of a record of a kind that has no later rules.
-pub(crate) fn judge_plain(k: u8, line: &[u8], f: usize, t: &[u8]) -> Broken
-    requires { ⌜ now t ≡ fieldOf (now line) f ⌝ }
-    requires { ⌜ k ≡ recordOf (now line) ⌝ }
-    requires { ⌜ (k ≡ 4 → ⊥) ⌝ }
-    ensures { λ r. ⌜ ((s : Setting) (v : Seen) → v .line ≡ recOf (now (line .entry)) → laterAt s v f ≡ [] → listed r ≡ brokenAt s v f) ⌝ }
+// A part of the file.
+pub(crate) fn span_text(file: &[u8], p: Span) -> &[u8]
+    ensures { λ r. ⌜ now r ≡ part (now (file .entry)) (p .start) (p .end) ⌝ }
 {
-    one(rules_forms::rules1_and_2(k, false, f, t))
+    part(file, p.start, p.end)
+}
+
+// Field f of a line whose kind has no later rules.
+pub(crate) fn judge_plain(file: &[u8], marks: &[u32], here: Here, f: usize) -> Broken
+    requires { ⌜ f ≤ 28 ⌝ }
+    requires { ⌜ (here .kind ≡ 1 → ⊥) ⌝ }
+    requires { ⌜ (here .kind ≡ 3 → ⊥) ⌝ }
+    requires { ⌜ (here .kind ≡ 4 → ⊥) ⌝ }
+    requires { ⌜ (here .kind ≡ 5 → ⊥) ⌝ }
+    requires { ⌜ (here .kind ≡ 6 → ⊥) ⌝ }
+    requires { ⌜ (here .kind ≡ 7 → ⊥) ⌝ }
+    ensures { λ r. ⌜ ((book : Text) (by : By) → Judges (now (file .entry)) (now (marks .entry)) here book by f r) ⌝ }
+{
+    let t = judged(file, marks, f);
+    one(rules1_and_2(here.kind, false, f, t))
 }
 
 // Field f of an IV.
-pub(crate) fn judge_iv(line: &[u8], f: usize, t: &[u8]) -> Broken
-    requires { ⌜ now t ≡ fieldOf (now line) f ⌝ }
-    requires { ⌜ recordOf (now line) ≡ 1 ⌝ }
-    ensures { λ r. ⌜ ((s : Setting) (v : Seen) → v .line ≡ recOf (now (line .entry)) → listed r ≡ brokenAt s v f) ⌝ }
+pub(crate) fn judge_iv(file: &[u8], marks: &[u32], here: Here, f: usize) -> Broken
+    requires { ⌜ f ≤ 28 ⌝ }
+    requires { ⌜ here .kind ≡ 1 ⌝ }
+    ensures { λ r. ⌜ ((book : Text) (by : By) → Judges (now (file .entry)) (now (marks .entry)) here book by f r) ⌝ }
 {
+    let t = judged(file, marks, f);
     match f {
-        2 => one(rules_plain::iv2_version(t)),
-        _ => one(rules_forms::rules1_and_2(IV, false, f, t)),
+        2 => one(iv2_version(t)),
+        _ => one(rules1_and_2(IV, false, f, t)),
     }
 }
 
 // Field f of an IP.
-pub(crate) fn judge_ip(line: &[u8], place: usize, today: u32, f: usize, t: &[u8]) -> Broken
-    requires { ⌜ now t ≡ fieldOf (now line) f ⌝ }
-    requires { ⌜ recordOf (now line) ≡ 3 ⌝ }
-    ensures { λ r. ⌜ ((s : Setting) (v : Seen) → v .line ≡ recOf (now (line .entry)) → v .place ≡ place → s .today ≡ today → listed r ≡ brokenAt s v f) ⌝ }
+pub(crate) fn judge_ip(file: &[u8], marks: &[u32], here: Here, by: By, f: usize) -> Broken
+    requires { ⌜ f ≤ 28 ⌝ }
+    requires { ⌜ here .kind ≡ 3 ⌝ }
+    ensures { λ r. ⌜ ((book : Text) → Judges (now (file .entry)) (now (marks .entry)) here book by f r) ⌝ }
 {
+    let t = judged(file, marks, f);
     match f {
-        2 => one(rules_plain::field2_number(IP, t, place)),
-        25 => one(rules_plain::ip25_birth(t, today)),
-        _ => one(rules_forms::rules1_and_2(IP, false, f, t)),
-    }
-}
-
-// Field f of an IN.
-pub(crate) fn judge_in(
-    line: &[u8],
-    ip: &[u8],
-    book: &[u8],
-    q: Sections,
-    place: usize,
-    born: u32,
-    day: Day,
-    today: u32,
-    f: usize,
-    t: &[u8],
-) -> Broken
-    requires { ⌜ now t ≡ fieldOf (now line) f ⌝ }
-    requires { ⌜ recordOf (now line) ≡ 6 ⌝ }
-    ensures { λ r. ⌜ ((s : Setting) (v : Seen) → Looks today (now (book .entry)) q s → Shows place born (now (line .entry)) (now (ip .entry)) v → DayIs day v → listed r ≡ brokenAt s v f) ⌝ }
-{
-    match f {
-        2 => one(rules_plain::field2_number(IN, t, place)),
-        3 => one(rules_plain::field3_uli(IN, t, ip)),
-        5 => one(rules_plain::ii6_in5_date(IN, 5, t, today, born)),
-        6 => one(rules_fields::code_field(IN, false, 6, t, REASON_NOT, t, book, q, day)),
-        _ => one(rules_forms::rules1_and_2(IN, false, f, t)),
-    }
-}
-
-// Field f of an IA.
-pub(crate) fn judge_ia(
-    line: &[u8],
-    ip: &[u8],
-    book: &[u8],
-    q: Sections,
-    place: usize,
-    born: u32,
-    day: Day,
-    today: u32,
-    f: usize,
-    t: &[u8],
-) -> Broken
-    requires { ⌜ now t ≡ fieldOf (now line) f ⌝ }
-    requires { ⌜ recordOf (now line) ≡ 7 ⌝ }
-    ensures { λ r. ⌜ ((s : Setting) (v : Seen) → Looks today (now (book .entry)) q s → Shows place born (now (line .entry)) (now (ip .entry)) v → DayIs day v → listed r ≡ brokenAt s v f) ⌝ }
-{
-    match f {
-        2 => one(rules_plain::field2_number(IA, t, place)),
-        3 => one(rules_plain::field3_uli(IA, t, ip)),
-        4 => one(rules_fields::code_field(IA, false, 4, t, ANTIGEN, t, book, q, day)),
-        _ => one(rules_forms::rules1_and_2(IA, false, f, t)),
+        2 => one(field2_number(IP, t, here.place)),
+        25 => one(ip25_birth(t, by.today)),
+        _ => one(rules1_and_2(IP, false, f, t)),
     }
 }
 
 // Field f of an IE.
 pub(crate) fn judge_ie(
-    line: &[u8],
-    ip: &[u8],
-    head: &[u8],
-    since: &[u8],
+    file: &[u8],
+    marks: &[u32],
+    here: Here,
     book: &[u8],
-    q: Sections,
-    place: usize,
-    born: u32,
-    day: Day,
-    today: u32,
+    by: By,
     f: usize,
-    t: &[u8],
 ) -> Broken
-    requires { ⌜ now t ≡ fieldOf (now line) f ⌝ }
-    requires { ⌜ recordOf (now line) ≡ 5 ⌝ }
-    ensures { λ r. ⌜ ((s : Setting) (v : Seen) → Looks today (now (book .entry)) q s → Shows place born (now (line .entry)) (now (ip .entry)) v → DayIs day v → v .head ≡ recOf (now (head .entry)) → v .antigens ≡ reverse (recs (now (since .entry))) → listed r ≡ brokenAt s v f) ⌝ }
+    requires { ⌜ f ≤ 28 ⌝ }
+    requires { ⌜ here .kind ≡ 5 ⌝ }
+    ensures { λ r. ⌜ Judges (now (file .entry)) (now (marks .entry)) here (now (book .entry)) by f r ⌝ }
 {
+    let t = judged(file, marks, f);
     match f {
-        2 => one(rules_plain::field2_number(IE, t, place)),
-        3 => one(rules_plain::field3_uli(IE, t, ip)),
-        4 => rules_fields::ie4_antigen(line, head, since, t, book, q, day),
-        _ => one(rules_forms::rules1_and_2(IE, false, f, t)),
+        2 => one(field2_number(IE, t, here.place)),
+        3 => one(field3_uli(IE, t, span_text(file, here.uli))),
+        4 => {
+            let vaccine = span_text(file, here.vaccine);
+            let since = part(file, here.since, here.at);
+            ie4_antigen(t, vaccine, since, book, by.sections, here.day)
+        }
+        _ => one(rules1_and_2(IE, false, f, t)),
+    }
+}
+
+// Field f of an IN.
+pub(crate) fn judge_in(
+    file: &[u8],
+    marks: &[u32],
+    here: Here,
+    book: &[u8],
+    by: By,
+    f: usize,
+) -> Broken
+    requires { ⌜ f ≤ 28 ⌝ }
+    requires { ⌜ here .kind ≡ 6 ⌝ }
+    ensures { λ r. ⌜ Judges (now (file .entry)) (now (marks .entry)) here (now (book .entry)) by f r ⌝ }
+{
+    let t = judged(file, marks, f);
+    match f {
+        2 => one(field2_number(IN, t, here.place)),
+        3 => one(field3_uli(IN, t, span_text(file, here.uli))),
+        5 => one(ii6_in5_date(IN, 5, t, by.today, here.born)),
+        6 => one(code_field(IN, false, 6, t, t, book, by.sections, here.day)),
+        _ => one(rules1_and_2(IN, false, f, t)),
+    }
+}
+
+// Field f of an IA.
+pub(crate) fn judge_ia(
+    file: &[u8],
+    marks: &[u32],
+    here: Here,
+    book: &[u8],
+    by: By,
+    f: usize,
+) -> Broken
+    requires { ⌜ f ≤ 28 ⌝ }
+    requires { ⌜ here .kind ≡ 7 ⌝ }
+    ensures { λ r. ⌜ Judges (now (file .entry)) (now (marks .entry)) here (now (book .entry)) by f r ⌝ }
+{
+    let t = judged(file, marks, f);
+    match f {
+        2 => one(field2_number(IA, t, here.place)),
+        3 => one(field3_uli(IA, t, span_text(file, here.uli))),
+        4 => one(code_field(IA, false, 4, t, t, book, by.sections, here.day)),
+        _ => one(rules1_and_2(IA, false, f, t)),
     }
 }

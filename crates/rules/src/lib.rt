@@ -1,4 +1,5 @@
 // Judging a file: every broken rule of every field, once, in order; the findings counted, and those that fit written.
+mod blocks;
 mod emit;
 mod fields;
 mod line;
@@ -7,42 +8,84 @@ mod pass;
 mod vaccine;
 mod walk;
 
+use book::Sections;
+use lines_fields::Span;
 pub use pass::judge;
 use rules_fields::Day;
+use rules_fields::Facts;
 pub use rules_walk::MOST_BYTES;
 pub use rules_walk::count_of;
 pub use rules_walk::keep;
 pub use rules_walk::part_of;
 
-// A part of the file.
-struct Span {
-    start: usize,
-    end: usize,
+// What a file is judged by, beside the book and the ledger: today, where the kinds of the book stand, and how many events are live.
+struct By {
+    today: u32,
+    sections: Sections,
+    live: usize,
 }
 
-// What later lines ask again of the nearest IP, II and IN: the day of birth, and the days.
-struct Known {
+// What is known at a line beside its marks, as `Seen` has it: its kind, its number, its place; where it and the next line start; its IP's ULI
+// and day of birth; its II's vaccine; the day of its II or IN; where the IE lines just before it start; where its block starts; where its own
+// IE lines end, and those of its block's first II; and what the index and the ledger say of it.
+struct Here {
+    kind: u8,
+    n: usize,
+    place: usize,
+    at: usize,
+    next: usize,
+    uli: Span,
     born: u32,
+    vaccine: Span,
+    day: Day,
+    since: usize,
+    block: usize,
+    own: usize,
+    first: Span,
+    facts: Facts,
+}
+
+// Fields 3, 4, 6 and 8 of an II, where they stand; nowhere where there is no such line.
+struct Open {
+    uli: Span,
+    kind: Span,
+    date: Span,
+    vaccine: Span,
+}
+
+// What later lines ask of the nearest IP, II and IN: the ULI and the day of birth, the vaccine and the day, and the day.
+struct Known {
+    uli: Span,
+    born: u32,
+    vaccine: Span,
     ii_day: Day,
     in_day: Day,
 }
 
-// What is known at the start of a line: its number; its place, if it is numbered; the nearest IP, II and IN, and what they give; where the IE
-// lines just before it start; the nearest II of the open block, where that block starts, whether it has a second II, and the IE lines of its
-// first; how many IN lines there are so far.
-struct State {
-    n: usize,
-    place: usize,
-    ip: Span,
-    ii: Span,
-    refusal: Span,
-    known: Known,
-    since: usize,
-    last: Span,
+// The block that is open: its nearest II, where it starts, whether it has a second II, and the IE lines of its first.
+struct Block {
+    last: Open,
     run: usize,
     many: bool,
     first: Span,
+}
+
+// What is known at the start of a line: its number; its place, if it is numbered; what the nearest IP, II and IN give; where the IE lines just
+// before it start; the open block; how many IN lines there are so far.
+struct State {
+    n: usize,
+    place: usize,
+    known: Known,
+    since: usize,
+    block: Block,
     not_immunized: usize,
+}
+
+// A line that was read: where it starts, where the next one starts, and its kind.
+struct Read {
+    at: usize,
+    next: usize,
+    kind: u8,
 }
 
 // Whether a line is in a block, whether it joins the open one, and where its block starts.
@@ -52,15 +95,17 @@ struct BlockAt {
     from: usize,
 }
 
-// The walk after a line: where the next one starts, the state there, and how many findings there are so far.
+// The walk at a line: where it starts, the state there, how many findings there are so far, and whether the line before begins a block.
 struct Turn {
     at: usize,
     st: State,
     count: usize,
+    first: bool,
 }
 
-// What a whole walk finds: how many findings, and how many IN records.
+// What a whole walk finds: how many blocks, findings and IN records.
 struct Walked {
+    blocks: usize,
     findings: usize,
     not_immunized: usize,
 }

@@ -1,81 +1,194 @@
-// What is known of a line before its fields are judged: its day, and what the index and the ledger say of its event.
+// What is known of a line before its fields are judged: where it and its own IE lines stand, its block, its vaccine and its day.
 use crate::BlockAt;
-use crate::Known;
-use house::Key;
+use crate::Here;
+use crate::Read;
+use crate::State;
+use crate::blocks::block_of;
+use crate::blocks::facts_of;
+use lines::IE;
 use lines::II;
 use lines::IN;
+use lines_fields::Span;
+use lines_fields::judged;
+use lines_fields::judged_span;
+use lines_fields::part;
 use rules_fields::Day;
 use rules_fields::Facts;
 ghost use mathlib.Core.Path.{_≡_};
-ghost use Rattle.lines.specs.Records.{recOf};
-ghost use Rattle.rules_definitions.specs.Blocks.{eventOf};
-ghost use Rattle.rules.specs.Walk.{factsBy, dayBy};
-ghost use Rattle.rules.specs.Fields.{dayIn};
+ghost use mathlib.Core.Bool.{true};
+ghost use Prim.Native.Nat.{_≤_, _<_};
+ghost use lib.ListN.{length, take};
+ghost use Rattle.lines_fields.specs.Marks.{marksAt};
+ghost use Rattle.lines.specs.Inside.{whole};
+ghost use Rattle.rules_definitions.specs.Forms.{text};
+ghost use Rattle.rules_walk.specs.Firsts.{fileMost};
+ghost use Rattle.rules.specs.Walk.{ReadIn, recIn, ReadAs, dayOf, vaccineBy, dayBy, OwnIs, OwnEnd, hereWith, HereIs, Holds, LookAt};
 
-// The event that a line names: fields 3, 6 and 8, by going on from one to the next.
-fn event_of(line: &[u8]) -> [u8; Key::WIDTH]
-    ensures { λ r. ⌜ r ≡ eventOf (recOf (now (line .entry))) ⌝ }
+// The day that a text gives: whether it is a date, and its number.
+pub(crate) fn day_of_text(t: &[u8]) -> Day
+    ensures { λ r. ⌜ r ≡ dayOf (now (t .entry)) ⌝ }
 {
-    let third = rules_forms::after_fields(line, 2);
-    let sixth = rules_forms::after_fields(third, 3);
-    let eighth = rules_forms::after_fields(sixth, 2);
-    let key = Key::of(
-        lines_fields::field_of(third, 1),
-        lines_fields::field_of(sixth, 1),
-        lines_fields::field_of(eighth, 1),
-    );
-    key.bytes
-}
-
-// What is known of a line, by its block.
-pub(crate) fn facts_of(
-    file: &[u8],
-    index: &[u32],
-    ledger: &[u8],
-    live: usize,
-    line: &[u8],
-    b: BlockAt,
-) -> Facts
-    ensures { λ r. ⌜ r ≡ factsBy (now (file .entry)) (now (index .entry)) (now (ledger .entry)) live (now (line .entry)) b ⌝ }
-{
-    let joined = b.joined;
-    if b.inb {
-        let key = event_of(line);
-        let repeated = rules_walk::rule15_named_before(file, index, key, b.from);
-        let alive = ledger::is_live(ledger, live, key);
-        return Facts {
-            inb: true,
-            joined,
-            repeated,
-            live: alive,
-        };
-    }
-    Facts {
-        inb: false,
-        joined,
-        repeated: false,
-        live: false,
+    let d = dates::Date::of(t);
+    match d {
+        dates::Dated::Day(day) => Day {
+            sound: true,
+            number: day.number,
+        },
+        dates::Dated::NoDate => Day {
+            sound: false,
+            number: 0,
+        },
     }
 }
 
-// The day that field f of a record gives.
-fn day_in(kind: u8, head: &[u8], f: usize) -> Day
-    ensures { λ r. ⌜ r ≡ dayIn kind (now (head .entry)) f ⌝ }
+// The day that field f of a line gives.
+pub(crate) fn day_in(file: &[u8], marks: &[u32], f: usize) -> Day
+    requires { ⌜ ReadIn (now file) (now marks) ⌝ }
+    requires { ⌜ f ≤ 28 ⌝ }
+    ensures { λ r. ⌜ r ≡ dayOf (text (recIn (now (file .entry)) (now (marks .entry))) f) ⌝ }
 {
-    let t = lines_fields::field_of(head, f);
-    let sound = rules_forms::sound_text(kind, head, f, t);
-    let number = rules_forms::value(t);
-    Day { sound, number }
+    day_of_text(judged(file, marks, f))
+}
+
+// Where the IE lines that start at a position end.
+fn ie_end(file: &[u8], from: usize) -> usize
+    requires { ⌜ from ≤ length (now file) ⌝ }
+    requires { ⌜ (from < length (now file) → whole (take from (now file)) ≡ true) ⌝ }
+    ensures { λ r. ⌜ OwnIs (now (file .entry)) from r ⌝ }
+{
+    let mut at = from;
+    while at < file.len() {
+        let l = lines_fields::line_at(file, at);
+        let end = l.end;
+        if lines::kind_of(&file[at..end]) != IE {
+            return at;
+        }
+        at = l.next;
+    }
+    at
+}
+
+// Where the IE lines of an II that joins a block end, which start at a position; the position itself for any other line, of which nothing is
+// asked.
+fn own_end(file: &[u8], joined: bool, from: usize) -> usize
+    requires { ⌜ from ≤ length (now file) ⌝ }
+    requires { ⌜ (from < length (now file) → whole (take from (now file)) ≡ true) ⌝ }
+    ensures { λ r. ⌜ OwnEnd (now (file .entry)) joined from r ⌝ }
+{
+    if joined { ie_end(file, from) } else { from }
+}
+
+// The vaccine of the II of a line of kind k: of an II its own, of any other the nearest II's.
+fn vaccine_of(file: &[u8], marks: &[u32], k: u8, was: Span) -> Span
+    ensures { λ r. ⌜ r ≡ vaccineBy (now (file .entry)) (now (marks .entry)) k was ⌝ }
+{
+    if k == II {
+        judged_span(file, marks, 8)
+    } else {
+        was
+    }
 }
 
 // The day of the record that a line of kind k belongs to: an II's or an IN's own, an IE's of the nearest II, an IA's of the nearest IN.
-pub(crate) fn day_of(k: u8, line: &[u8], known: Known) -> Day
-    ensures { λ r. ⌜ r ≡ dayBy k (now (line .entry)) known ⌝ }
+fn day_of(file: &[u8], marks: &[u32], k: u8, ii_day: Day, in_day: Day) -> Day
+    requires { ⌜ ReadIn (now file) (now marks) ⌝ }
+    ensures { λ r. ⌜ r ≡ dayBy (recIn (now (file .entry)) (now (marks .entry))) k «ii_day» «in_day» ⌝ }
 {
     match k {
-        lines::II => day_in(II, line, 6),
-        lines::IE => known.ii_day,
-        lines::IN => day_in(IN, line, 5),
-        _ => known.in_day,
+        II => day_in(file, marks, 6),
+        IE => ii_day,
+        IN => day_in(file, marks, 5),
+        _ => in_day,
     }
+}
+
+// What is known of the line that was read, whose block and facts these are.
+fn here_of(file: &[u8], marks: &[u32], r: Read, st: State, b: BlockAt, facts: Facts) -> Here
+    requires { ⌜ ReadAs (now file) (now marks) r ⌝ }
+    requires { ⌜ Holds (now file) (r .at) st ⌝ }
+    ensures { λ h. ⌜ h ≡ hereWith (now (file .entry)) (now (marks .entry)) r st b facts (h .own) ⌝ }
+    ensures { λ h. ⌜ OwnEnd (now (file .entry)) (facts .joined) (r .next) (h .own) ⌝ }
+{
+    let k = r.kind;
+    let next = r.next;
+    let known = st.known;
+    let block = st.block;
+    let own = own_end(file, facts.joined, next);
+    let vaccine = vaccine_of(file, marks, k, known.vaccine);
+    let day = day_of(file, marks, k, known.ii_day, known.in_day);
+    let uli = known.uli;
+    let first = block.first;
+    Here {
+        kind: k,
+        n: st.n,
+        place: st.place,
+        at: r.at,
+        next,
+        uli,
+        born: known.born,
+        vaccine,
+        day,
+        since: st.since,
+        block: b.from,
+        own,
+        first,
+        facts,
+    }
+}
+
+// What is known of the line that was read.
+fn see(
+    file: &[u8],
+    marks: &[u32],
+    r: Read,
+    st: State,
+    index: &[u32],
+    ledger: &[u8],
+    live: usize,
+) -> Here
+    requires { ⌜ ReadAs (now file) (now marks) r ⌝ }
+    requires { ⌜ Holds (now file) (r .at) st ⌝ }
+    ensures { λ h. ⌜ HereIs (now (file .entry)) (r .at) st (now (index .entry)) (now (ledger .entry)) live h ⌝ }
+{
+    let block = st.block;
+    let last = block.last;
+    let b = block_of(file, marks, r.kind, r.at, last, block.run);
+    let facts = facts_of(file, marks, index, ledger, live, b);
+    here_of(file, marks, r, st, b, facts)
+}
+
+// Reads the line that starts at a position.
+fn read(file: &[u8], marks: &mut [u32], at: usize) -> Read
+    requires { ⌜ at < length (now file) ⌝ }
+    requires { ⌜ length (now file) ≤ fileMost ⌝ }
+    requires { ⌜ length (now marks) ≡ 30 ⌝ }
+    ensures { λ r. ⌜ r .at ≡ at ⌝ }
+    ensures { λ r. ⌜ ReadAs (now (file .entry)) (now (marks .exit)) r ⌝ }
+{
+    let l = lines_fields::read_line(file, at, marks);
+    let end = l.end;
+    let kind = lines::kind_of(part(file, at, end));
+    Read {
+        at,
+        next: l.next,
+        kind,
+    }
+}
+
+// Reads the line that starts at a position, and tells what is known of it.
+pub(crate) fn look(
+    file: &[u8],
+    marks: &mut [u32],
+    at: usize,
+    st: State,
+    index: &[u32],
+    ledger: &[u8],
+    live: usize,
+) -> Here
+    requires { ⌜ LookAt (now file) (now marks) at st ⌝ }
+    ensures { λ r. ⌜ HereIs (now (file .entry)) at st (now (index .entry)) (now (ledger .entry)) live r ⌝ }
+    ensures { λ _. ⌜ now (marks .exit) ≡ marksAt (now (file .entry)) at ⌝ }
+{
+    let r = read(file, marks, at);
+    see(file, marks, r, st, index, ledger, live)
 }

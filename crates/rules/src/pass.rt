@@ -1,288 +1,284 @@
-// The pass over a file: each line judged in turn.
-use crate::BlockAt;
+// The pass over a file: each line judged in turn, and the index of its blocks.
+use crate::By;
+use crate::Here;
 use crate::Judged;
-use crate::Span;
-use crate::State;
 use crate::Turn;
 use crate::Walked;
-use crate::line::judge_fields;
-use crate::look::day_of;
-use crate::look::facts_of;
+use crate::line::judge_line;
+use crate::look::look;
 use crate::walk::advance;
-use crate::walk::block_of;
-use crate::walk::head_at;
-use crate::walk::ie_end;
-use crate::walk::next_known;
 use crate::walk::start;
 use book::Sections;
-use lines_fields::LineAt;
-use rules_fields::Day;
+use lines_fields::MARKS;
 use rules_fields::Facts;
 use rules_walk::Built;
+use rules_walk::MOST_BYTES;
 ghost use mathlib.Core.Path.{_≡_};
-ghost use mathlib.Core.Bool.{true, cond};
-ghost use Prim.Native.Nat.{_+_, _*_, _^_, _≤_, _<_};
-ghost use lib.ListN.{length, take, drop};
-ghost use Rattle.house.specs.Text.{howMany, front};
-ghost use Rattle.lines_fields.specs.Lines.{fieldsOf};
-ghost use Rattle.lines.specs.Records.{IE, IN, isKind, recordOf, recs};
-ghost use Rattle.lines.specs.Inside.{whole};
-ghost use Rattle.lines_fields.specs.Inside.{part};
+ghost use mathlib.Core.Bool.{not, _&&_};
+ghost use Prim.Native.Nat.{_≤_};
+ghost use lib.ListN.{length, take};
 ghost use Rattle.ledger.specs.Ledger.{foundIn};
-ghost use Rattle.rules_definitions.specs.Seen.{Setting, Seen};
-ghost use Rattle.rules_definitions.specs.Findings.{fieldsFindings, areaAfter};
 ghost use Rattle.rules_walk.specs.Firsts.{fileMost, builtIn};
-ghost use Rattle.rules.specs.Inside.{kept, keep};
 ghost use Rattle.rules.specs.Look.{settingBy};
-ghost use Rattle.rules.specs.Fields.{Looks, Told};
-ghost use Rattle.rules.specs.Walk.{partOf, dayBy, Holds, OwnEnd, Ready, PartsIn, Serves, TurnIs, headAt, span, seenWith};
-ghost use Rattle.rules.specs.Judged.{findingsBy, judgedOf, judgedArea};
+ghost use Rattle.rules.specs.Under.{findingsUnder};
+ghost use Rattle.rules.specs.Walk.{ReadIn};
+ghost use Rattle.rules.specs.Turned.{Fits, TurnAt, TurnIs, JudgedIs};
+ghost use Rattle.rules.specs.Judged.{judgedOf, judgedArea, WalkIs, GatherIs, Judging, Sorting};
 
-// Where the IE lines of an II that joins a block end, which start at a position; the position itself for any other line, of which nothing is
-// asked.
-fn own_end(file: &[u8], joined: bool, from: usize) -> usize
-    requires { ⌜ from ≤ length (now file) ⌝ }
-    requires { ⌜ (from < length (now file) → whole (take from (now file)) ≡ true) ⌝ }
-    ensures { λ r. ⌜ OwnEnd (now (file .entry)) joined from r ⌝ }
+// Whether a line begins a block.
+fn begins(facts: Facts) -> bool
+    ensures { λ r. ⌜ r ≡ facts .inb && not (facts .joined) ⌝ }
 {
-    if joined { ie_end(file, from) } else { from }
-}
-
-// The fields of the line from at to end, the others being told where they stand in the file.
-fn judge_parts(
-    file: &[u8],
-    at: usize,
-    l: LineAt,
-    k: u8,
-    st: State,
-    from: usize,
-    head: Span,
-    own: usize,
-    book: &[u8],
-    q: Sections,
-    day: Day,
-    today: u32,
-    facts: Facts,
-    area: &mut [u8],
-    count: usize,
-) -> usize
-    requires { ⌜ PartsIn (now file) at l st from head own ⌝ }
-    requires { ⌜ k ≡ recordOf (part (now file) at (l .end)) ⌝ }
-    requires { ⌜ count + 3 * length (fieldsOf (part (now file) at (l .end))) < 2 ^ 63 ⌝ }
-    ensures { λ r. ⌜ ((s : Setting) (v : Seen) → Told today (now (book .entry)) q (st .place) (st .known .born) (part (now (file .entry)) at (l .end)) (partOf (now (file .entry)) (st .ip)) (partOf (now (file .entry)) head) (part (now (file .entry)) (st .since) at) (part (now (file .entry)) from at) (part (now (file .entry)) (l .next) own) (partOf (now (file .entry)) (st .first)) day facts s v → kept r (now (area .exit)) ≡ keep (fieldsFindings s (st .n) v 1 (length (fieldsOf (part (now (file .entry)) at (l .end))))) (kept count (now (area .entry)))) ⌝ }
-    ensures { λ r. ⌜ r ≤ count + 3 * length (fieldsOf (part (now (file .entry)) at (l .end))) ⌝ }
-{
-    let end = l.end;
-    let next = l.next;
-    let ip = st.ip;
-    let is = ip.start;
-    let ie = ip.end;
-    let hs = head.start;
-    let he = head.end;
-    let since = st.since;
-    let known = st.known;
-    let first = st.first;
-    let fs = first.start;
-    let fe = first.end;
-    judge_fields(
-        k,
-        &file[at..end],
-        &file[is..ie],
-        &file[hs..he],
-        &file[since..at],
-        &file[from..at],
-        &file[next..own],
-        &file[fs..fe],
-        book,
-        q,
-        st.place,
-        known.born,
-        day,
-        today,
-        facts,
-        st.n,
-        area,
-        count,
-    )
-}
-
-// The fields of the line that starts at a position: its findings put to the others.
-fn judge_line(
-    file: &[u8],
-    at: usize,
-    l: LineAt,
-    k: u8,
-    st: State,
-    b: BlockAt,
-    facts: Facts,
-    day: Day,
-    book: &[u8],
-    q: Sections,
-    today: u32,
-    area: &mut [u8],
-    count: usize,
-) -> usize
-    requires { ⌜ Ready (now file) at l k st b ⌝ }
-    requires { ⌜ day ≡ dayBy k (part (now file) at (l .end)) (st .known) ⌝ }
-    requires { ⌜ count ≤ 3 * at ⌝ }
-    ensures { λ r. ⌜ ((s : Setting) → Looks today (now (book .entry)) q s → kept r (now (area .exit)) ≡ keep (fieldsFindings s (st .n) (seenWith (now (file .entry)) at st (part (now (file .entry)) at (l .end)) (headAt st k (span at (l .end))) (b .from) (front (isKind IE) (recs (drop (l .next) (now (file .entry))))) facts) 1 (length (fieldsOf (part (now (file .entry)) at (l .end))))) (kept count (now (area .entry)))) ⌝ }
-    ensures { λ r. ⌜ r ≤ 3 * l .next ⌝ }
-{
-    let end = l.end;
-    let next = l.next;
-    let head = head_at(st, k, Span { start: at, end });
-    let own = own_end(file, facts.joined, next);
-    judge_parts(
-        file,
-        at,
-        l,
-        k,
-        st,
-        b.from,
-        head,
-        own,
-        book,
-        q,
-        day,
-        today,
-        facts,
-        area,
-        count,
-    )
-}
-
-// One line judged, and the state after it.
-fn turn(
-    file: &[u8],
-    at: usize,
-    st: State,
-    index: &[u32],
-    ledger: &[u8],
-    live: usize,
-    book: &[u8],
-    q: Sections,
-    today: u32,
-    area: &mut [u8],
-    count: usize,
-) -> Turn
-    requires { ⌜ Holds (now file) at st ⌝ }
-    requires { ⌜ at < length (now file) ⌝ }
-    requires { ⌜ length (now file) ≤ fileMost ⌝ }
-    requires { ⌜ Serves (now file) (now index) ⌝ }
-    requires { ⌜ count ≤ 3 * at ⌝ }
-    ensures { λ r. ⌜ TurnIs (settingBy today (now (book .entry)) q (foundIn (now (ledger .entry)) live)) (now (file .entry)) at st count (now (area .entry)) r (now (area .exit)) ⌝ }
-{
-    let l = lines_fields::line_at(file, at);
-    let end = l.end;
-    let next = l.next;
-    let line = &file[at..end];
-    let k = lines::kind_of(line);
-    let b = block_of(file, at, st, line);
-    let facts = facts_of(file, index, ledger, live, line, b);
-    let day = day_of(k, line, st.known);
-    let known = next_known(st.known, k, line, day);
-    let c = judge_line(
-        file,
-        at,
-        l,
-        k,
-        st,
-        b,
-        facts,
-        day,
-        book,
-        q,
-        today,
-        area,
-        count,
-    );
-    let after = advance(st, k, Span { start: at, end }, next, b, known);
-    Turn {
-        at: next,
-        st: after,
-        count: c,
+    if facts.inb {
+        if facts.joined { false } else { true }
+    } else {
+        false
     }
 }
 
-// Every line of a file: its findings counted, and those that fit written.
-fn walk(
+// The line that was read judged, and the walk after it.
+fn judge_and_advance(
     file: &[u8],
+    marks: &[u32],
+    here: Here,
+    t: Turn,
+    book: &[u8],
+    by: By,
+    area: &mut [u8],
+) -> Turn
+    requires { ⌜ ReadIn (now file) (now marks) ⌝ }
+    requires { ⌜ Fits t ⌝ }
+    ensures { λ r. ⌜ JudgedIs (now (file .entry)) (now (marks .entry)) here t (now (book .entry)) by (now (area .entry)) r (now (area .exit)) ⌝ }
+{
+    let count = judge_line(file, marks, here, book, by, area, t.count);
+    let st = advance(file, marks, t.st, here);
+    let facts = here.facts;
+    Turn {
+        at: here.next,
+        st,
+        count,
+        first: begins(facts),
+    }
+}
+
+// One line judged, and the walk after it. Events named before are looked up in an index.
+fn turn(
+    file: &[u8],
+    marks: &mut [u32],
+    t: Turn,
     index: &[u32],
     ledger: &[u8],
-    live: usize,
     book: &[u8],
-    q: Sections,
-    today: u32,
+    by: By,
+    area: &mut [u8],
+) -> Turn
+    requires { ⌜ TurnAt (now file) (now marks) t ⌝ }
+    ensures { λ r. ⌜ TurnIs (settingBy (by .today) (now (book .entry)) (by .sections) (foundIn (now (ledger .entry)) (by .live)))
+        (now (file .entry)) (now (index .entry)) t (now (area .entry)) r (now (area .exit)) ⌝ }
+{
+    let here = look(file, marks, t.at, t.st, index, ledger, by.live);
+    judge_and_advance(file, marks, here, t, book, by, area)
+}
+
+// Every line of a file, events named before being looked up in an index: its findings counted, and those that fit written.
+fn walk(
+    file: &[u8],
+    marks: &mut [u32],
+    index: &[u32],
+    ledger: &[u8],
+    book: &[u8],
+    by: By,
+    area: &mut [u8],
+) -> usize
+    requires { ⌜ length (now file) ≤ fileMost ⌝ }
+    requires { ⌜ length (now marks) ≡ 30 ⌝ }
+    ensures { λ r. ⌜ WalkIs (settingBy (by .today) (now (book .entry)) (by .sections) (foundIn (now (ledger .entry)) (by .live)))
+        (now (file .entry)) (now (index .entry)) (now (area .entry)) r (now (area .exit)) ⌝ }
+{
+    let mut st = start();
+    let mut at = 0;
+    let mut count = 0;
+    while at < file.len() {
+        let t = turn(
+            file,
+            marks,
+            Turn {
+                at,
+                st,
+                count,
+                first: false,
+            },
+            index,
+            ledger,
+            book,
+            by,
+            area,
+        );
+        st = t.st;
+        at = t.at;
+        count = t.count;
+    }
+    count
+}
+
+// The same, no event having been named before; and where each block's first II line starts is written to the front of an area, as many as fit.
+fn gather(
+    file: &[u8],
+    marks: &mut [u32],
+    index: &mut [u32],
+    ledger: &[u8],
+    book: &[u8],
+    by: By,
     area: &mut [u8],
 ) -> Walked
     requires { ⌜ length (now file) ≤ fileMost ⌝ }
-    requires { ⌜ Serves (now file) (now index) ⌝ }
-    ensures { λ r. ⌜ r .findings ≡ length (findingsBy today (now (file .entry)) (now (book .entry)) q (now (ledger .entry)) live) ⌝ }
-    ensures { λ r. ⌜ now (area .exit) ≡ areaAfter (now (area .entry)) (findingsBy today (now (file .entry)) (now (book .entry)) q (now (ledger .entry)) live) ⌝ }
-    ensures { λ r. ⌜ r .«not_immunized» ≡ howMany (isKind IN) (recs (now (file .entry))) ⌝ }
+    requires { ⌜ length (now marks) ≡ 30 ⌝ }
+    ensures { λ r. ⌜ GatherIs (settingBy (by .today) (now (book .entry)) (by .sections) (foundIn (now (ledger .entry)) (by .live)))
+        (now (file .entry)) (now (area .entry)) (now (index .entry)) r (now (area .exit)) (now (index .exit)) ⌝ }
 {
     let mut st = start();
     let mut at = 0;
     let mut findings = 0;
+    let mut blocks: usize = 0;
     while at < file.len() {
+        let here = at as u32;
         let t = turn(
             file,
-            at,
-            st,
-            index,
+            marks,
+            Turn {
+                at,
+                st,
+                count: findings,
+                first: false,
+            },
+            &index[..0],
             ledger,
-            live,
             book,
-            q,
-            today,
+            by,
             area,
-            findings,
         );
         st = t.st;
         at = t.at;
         findings = t.count;
+        if t.first {
+            rules_walk::put(index, blocks, here);
+            blocks += 1;
+            continue;
+        }
     }
     let not_immunized = st.not_immunized;
     Walked {
+        blocks,
         findings,
         not_immunized,
     }
 }
 
-// How many places of the index are to be asked for events named before: none where no two of its blocks name one event.
-fn places_asked(distinct: bool, blocks: usize) -> usize
-    ensures { λ r. ⌜ r ≡ cond distinct 0 blocks ⌝ }
+// Every line of a file, events named before being looked up in the first n places of an area, or in all where there are fewer.
+fn walk_by(
+    file: &[u8],
+    marks: &mut [u32],
+    places: &[u32],
+    n: usize,
+    ledger: &[u8],
+    book: &[u8],
+    by: By,
+    area: &mut [u8],
+) -> usize
+    requires { ⌜ length (now file) ≤ fileMost ⌝ }
+    requires { ⌜ length (now marks) ≡ 30 ⌝ }
+    ensures { λ r. ⌜ WalkIs (settingBy (by .today) (now (book .entry)) (by .sections) (foundIn (now (ledger .entry)) (by .live)))
+        (now (file .entry)) (take n (now (places .entry))) (now (area .entry)) r (now (area .exit)) ⌝ }
 {
-    if distinct { 0 } else { blocks }
+    if places.len() <= n {
+        return walk(file, marks, places, ledger, book, by, area);
+    }
+    let from = 0;
+    walk(file, marks, &places[from..n], ledger, book, by, area)
 }
 
-// Judges a file: builds its index in the room lent, counts its findings, and writes those that fit in the area.
+// Puts the places of the blocks that a walk gathered in order; where two of them name one event, the walk is made again by that index.
+fn judge_sorted(
+    file: &[u8],
+    marks: &mut [u32],
+    w: Walked,
+    book: &[u8],
+    by: By,
+    ledger: &[u8],
+    room: &mut [u32],
+    area: &mut [u8],
+) -> Judged
+    requires { ⌜ length (now file) ≤ fileMost ⌝ }
+    requires { ⌜ length (now marks) ≡ 30 ⌝ }
+    ensures { λ r. ⌜ Sorting (now (file .entry)) (now (book .entry)) by (now (ledger .entry)) w
+        (now (room .entry)) (now (area .entry)) r (now (room .exit)) (now (area .exit)) ⌝ }
+{
+    let built = rules_walk::sort_index(file, room, w.blocks);
+    match built {
+        Built::TooMany => Judged::TooMany,
+        Built::Blocks { blocks, distinct } => {
+            let not_immunized = w.not_immunized;
+            if distinct {
+                return Judged::Done {
+                    blocks,
+                    findings: w.findings,
+                    not_immunized,
+                };
+            }
+            let findings = walk_by(file, marks, room, blocks, ledger, book, by, area);
+            Judged::Done {
+                blocks,
+                findings,
+                not_immunized,
+            }
+        }
+    }
+}
+
+// Judges a file of a length that is judged: its findings are counted, and those that fit written, as if no event were named twice; where two
+// blocks do name one, once more, by the index of its blocks.
+fn judge_file(
+    file: &[u8],
+    marks: &mut [u32],
+    book: &[u8],
+    by: By,
+    ledger: &[u8],
+    room: &mut [u32],
+    area: &mut [u8],
+) -> Judged
+    requires { ⌜ length (now file) ≤ fileMost ⌝ }
+    requires { ⌜ length (now marks) ≡ 30 ⌝ }
+    ensures { λ r. ⌜ Judging (now (file .entry)) (now (book .entry)) by (now (ledger .entry))
+        (now (room .entry)) (now (area .entry)) r (now (room .exit)) (now (area .exit)) ⌝ }
+{
+    let w = gather(file, marks, room, ledger, book, by, area);
+    judge_sorted(file, marks, w, book, by, ledger, room, area)
+}
+
+// Judges a file: counts its findings, writes those that fit in the area, and leaves the index of its blocks in the room lent.
 pub fn judge(
     today: u32,
     file: &[u8],
     book: &[u8],
-    q: Sections,
+    sections: Sections,
     ledger: &[u8],
     live: usize,
     room: &mut [u32],
     area: &mut [u8],
 ) -> Judged
-    ensures { λ r. ⌜ r ≡ judgedOf today (now (file .entry)) (now (book .entry)) q (now (ledger .entry)) live (length (now (room .entry))) ⌝ }
+    ensures { λ r. ⌜ r ≡ judgedOf today (now (file .entry)) (now (book .entry)) sections (now (ledger .entry)) live (length (now (room .entry))) ⌝ }
     ensures { λ _. ⌜ now (room .exit) ≡ builtIn (now (file .entry)) (now (room .entry)) ⌝ }
-    ensures { λ _. ⌜ now (area .exit) ≡ judgedArea today (now (file .entry)) (now (book .entry)) q (now (ledger .entry)) live (length (now (room .entry))) (now (area .entry)) ⌝ }
+    ensures { λ _. ⌜ now (area .exit) ≡ judgedArea today (now (file .entry)) (now (book .entry)) sections (now (ledger .entry)) live
+        (length (now (room .entry))) (now (area .entry)) ⌝ }
 {
-    let built = rules_walk::build(file, room);
-    match built {
-        Built::TooMany => Judged::TooMany,
-        Built::Blocks { blocks, distinct } => {
-            let from = 0;
-            let asked = places_asked(distinct, blocks);
-            let w = walk(file, &room[from..asked], ledger, live, book, q, today, area);
-            Judged::Done {
-                blocks,
-                findings: w.findings,
-                not_immunized: w.not_immunized,
-            }
-        }
+    if MOST_BYTES < file.len() {
+        return Judged::TooMany;
     }
+    let mut marks = [0u32; MARKS];
+    let by = By {
+        today,
+        sections,
+        live,
+    };
+    judge_file(file, &mut marks, book, by, ledger, room, area)
 }

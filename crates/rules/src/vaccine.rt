@@ -1,56 +1,73 @@
-// The rules that are broken at a field of an II with text t, by its number.
+// The rules that are broken at a field of an II, by its number.
+use crate::By;
+use crate::Here;
 use crate::fields::one;
-use book::MANUFACTURER;
-use book::Sections;
+use crate::fields::span_text;
 use lines::II;
+use lines_fields::judged;
+use lines_fields::part;
 use rules_fields::Broken;
-use rules_fields::Day;
-use rules_fields::Facts;
+use rules_fields::code_field;
+use rules_fields::ii4_type;
+use rules_fields::ii8_vaccine;
+use rules_fields::ii9_site;
+use rules_fields::ii10_method;
+use rules_fields::ii11_reason;
+use rules_fields::ii12_dosage;
+use rules_fields::ii13_dosage_type;
+use rules_forms::rules1_and_2;
+use rules_plain::field2_number;
+use rules_plain::field3_uli;
+use rules_plain::ii6_in5_date;
+use rules_plain::ii15_lot;
 ghost use mathlib.Core.Path.{_≡_};
-ghost use Rattle.lines_fields.specs.Lines.{fieldOf};
-ghost use Rattle.lines.specs.Records.{recordOf, recOf};
-ghost use Rattle.rules_definitions.specs.Forms.{isRelaxed};
-ghost use Rattle.rules_definitions.specs.Seen.{Setting, Seen};
-ghost use Rattle.rules_definitions.specs.Rules.{brokenAt};
-ghost use Rattle.rules.specs.Inside.{listed};
-ghost use Rattle.rules.specs.Fields.{Shows, DayIs, Looks, Blocked};
+ghost use Prim.Native.Nat.{_≤_};
+ghost use Rattle.rules.specs.Fields.{Judges, relaxedIn, ii8In};
 
-// Field f of an II.
+// II 8: its IE lines and those of its block's first II are looked at where it joins the block.
+fn judge_ii8(file: &[u8], here: Here, book: &[u8], by: By, t: &[u8]) -> Broken
+    ensures { λ r. ⌜ r ≡ ii8In (now (file .entry)) here (now (book .entry)) by (now (t .entry)) ⌝ }
+{
+    let own = part(file, here.next, here.own);
+    let first = span_text(file, here.first);
+    ii8_vaccine(t, own, first, book, by.sections, here.day, here.facts)
+}
+
+// Field f of an II, an event that is relaxed or not.
 pub(crate) fn judge_ii(
-    line: &[u8],
-    ip: &[u8],
-    block: &[u8],
-    own: &[u8],
-    first: &[u8],
+    file: &[u8],
+    marks: &[u32],
+    here: Here,
     book: &[u8],
-    q: Sections,
-    place: usize,
-    born: u32,
-    day: Day,
-    today: u32,
-    facts: Facts,
+    by: By,
     relaxed: bool,
     f: usize,
-    t: &[u8],
 ) -> Broken
-    requires { ⌜ now t ≡ fieldOf (now line) f ⌝ }
-    requires { ⌜ relaxed ≡ isRelaxed (recOf (now line)) ⌝ }
-    requires { ⌜ recordOf (now line) ≡ 4 ⌝ }
-    ensures { λ r. ⌜ ((s : Setting) (v : Seen) → Looks today (now (book .entry)) q s → Shows place born (now (line .entry)) (now (ip .entry)) v → DayIs day v → Blocked facts (now (line .entry)) (now (block .entry)) (now (own .entry)) (now (first .entry)) v → listed r ≡ brokenAt s v f) ⌝ }
+    requires { ⌜ f ≤ 28 ⌝ }
+    requires { ⌜ here .kind ≡ 4 ⌝ }
+    requires { ⌜ relaxed ≡ relaxedIn (now file) (now marks) ⌝ }
+    ensures { λ r. ⌜ Judges (now (file .entry)) (now (marks .entry)) here (now (book .entry)) by f r ⌝ }
 {
+    let t = judged(file, marks, f);
     match f {
-        2 => one(rules_plain::field2_number(II, t, place)),
-        3 => one(rules_plain::field3_uli(II, t, ip)),
-        4 => rules_fields::ii4_type(t, facts),
-        6 => one(rules_plain::ii6_in5_date(II, 6, t, today, born)),
-        8 => rules_fields::ii8_vaccine(t, own, first, book, q, day, facts),
-        9 => rules_fields::ii9_site(line, relaxed, t),
-        10 => rules_fields::ii10_method(line, relaxed, t),
-        11 => rules_fields::ii11_reason(line, relaxed, t, book, q, day),
-        12 => rules_fields::ii12_dosage(line, relaxed, t),
-        13 => rules_fields::ii13_dosage_type(line, relaxed, t, book, q, day),
-        14 => one(rules_fields::code_field(II, relaxed, 14, t, MANUFACTURER, t, book, q, day)),
-        15 => one(rules_plain::ii15_lot(relaxed, t, block)),
-        _ => one(rules_forms::rules1_and_2(II, relaxed, f, t)),
+        2 => one(field2_number(II, t, here.place)),
+        3 => one(field3_uli(II, t, span_text(file, here.uli))),
+        4 => ii4_type(t, here.facts),
+        6 => one(ii6_in5_date(II, 6, t, by.today, here.born)),
+        8 => judge_ii8(file, here, book, by, t),
+        9 => ii9_site(relaxed, t, judged(file, marks, 10)),
+        10 => ii10_method(relaxed, judged(file, marks, 9), t),
+        11 => {
+            let vaccine = span_text(file, here.vaccine);
+            ii11_reason(relaxed, t, vaccine, book, by.sections, here.day)
+        }
+        12 => ii12_dosage(relaxed, t, judged(file, marks, 13)),
+        13 => {
+            let dosage = judged(file, marks, 12);
+            ii13_dosage_type(relaxed, t, dosage, book, by.sections, here.day)
+        }
+        14 => one(code_field(II, relaxed, 14, t, t, book, by.sections, here.day)),
+        15 => one(ii15_lot(relaxed, t, part(file, here.block, here.at))),
+        _ => one(rules1_and_2(II, relaxed, f, t)),
     }
 }

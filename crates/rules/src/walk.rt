@@ -1,15 +1,17 @@
 // The walk over the lines: the state at the start of a line, and how it goes on.
-use crate::BlockAt;
+use crate::Block;
+use crate::Here;
 use crate::Known;
-use crate::Span;
+use crate::Open;
 use crate::State;
+use crate::look::day_in;
+use lines_fields::Span;
+use lines_fields::judged_span;
 use rules_fields::Day;
 ghost use mathlib.Core.Path.{_≡_};
-ghost use Prim.Native.Nat.{_+_, _^_, _≤_, _<_};
-ghost use mathlib.Core.Bool.{true};
-ghost use lib.ListN.{length, take};
-ghost use Rattle.lines.specs.Inside.{whole};
-ghost use Rattle.rules.specs.Walk.{Holds, BlockIs, OwnIs, headAt, nextPlace, nextOf, nextBorn, nextDay, nextKnown, nextSince, nextLast, nextRun, nextMany, nextFirst, nextNotImmunized, advanced, startState};
+ghost use Prim.Native.Nat.{_+_, _^_, _<_};
+ghost use Rattle.rules.specs.Walk.{ReadIn, recIn, noOpen, startState};
+ghost use Rattle.rules.specs.Advance.{nextPlace, nextUli, nextBorn, nextDay, nextSince, openIn, nextOpen, nextRun, nextMany, nextFirst, nextNotImmunized, nextKnown, nextBlock, advanced};
 
 // The place of the next line, if it is numbered.
 fn next_place(place: usize, k: u8) -> usize
@@ -22,11 +24,34 @@ fn next_place(place: usize, k: u8) -> usize
     }
 }
 
-// The nearest line of kind j.
-fn next_of(j: u8, p: Span, k: u8, here: Span) -> Span
-    ensures { λ r. ⌜ r ≡ nextOf j p k here ⌝ }
+// The ULI of the nearest IP.
+fn next_uli(file: &[u8], marks: &[u32], k: u8, was: Span) -> Span
+    ensures { λ r. ⌜ r ≡ nextUli (now (file .entry)) (now (marks .entry)) k was ⌝ }
 {
-    if k == j { here } else { p }
+    if k == lines::IP {
+        judged_span(file, marks, 3)
+    } else {
+        was
+    }
+}
+
+// The day of birth that the nearest IP gives, 0 where it gives none.
+fn next_born(file: &[u8], marks: &[u32], k: u8, was: u32) -> u32
+    requires { ⌜ ReadIn (now file) (now marks) ⌝ }
+    ensures { λ r. ⌜ r ≡ nextBorn (recIn (now (file .entry)) (now (marks .entry))) k was ⌝ }
+{
+    if k == lines::IP {
+        day_in(file, marks, 25).number
+    } else {
+        was
+    }
+}
+
+// The day of the nearest line of kind j.
+fn next_day(j: u8, was: Day, k: u8, day: Day) -> Day
+    ensures { λ r. ⌜ r ≡ nextDay j was k day ⌝ }
+{
+    if k == j { day } else { was }
 }
 
 // Where the IE lines just before the next line start.
@@ -36,14 +61,43 @@ fn next_since(since: usize, k: u8, next: usize) -> usize
     if k == lines::IE { since } else { next }
 }
 
+// Where fields 3, 4, 6 and 8 of a line stand.
+fn open_of(file: &[u8], marks: &[u32]) -> Open
+    ensures { λ r. ⌜ r ≡ openIn (now (file .entry)) (now (marks .entry)) ⌝ }
+{
+    let uli = judged_span(file, marks, 3);
+    let kind = judged_span(file, marks, 4);
+    let date = judged_span(file, marks, 6);
+    let vaccine = judged_span(file, marks, 8);
+    Open {
+        uli,
+        kind,
+        date,
+        vaccine,
+    }
+}
+
+// Where no line stands.
+fn no_open() -> Open
+    ensures { λ r. ⌜ r ≡ noOpen ⌝ }
+{
+    let none = Span { start: 0, end: 0 };
+    Open {
+        uli: none,
+        kind: none,
+        date: none,
+        vaccine: none,
+    }
+}
+
 // The nearest II of the open block.
-fn next_last(last: Span, k: u8, inb: bool, here: Span) -> Span
-    ensures { λ r. ⌜ r ≡ nextLast last k inb here ⌝ }
+fn next_open(file: &[u8], marks: &[u32], was: Open, k: u8, inb: bool) -> Open
+    ensures { λ r. ⌜ r ≡ nextOpen (now (file .entry)) (now (marks .entry)) was k inb ⌝ }
 {
     if k == lines::IE {
-        return last;
+        return was;
     }
-    if inb { here } else { Span { start: 0, end: 0 } }
+    if inb { open_of(file, marks) } else { no_open() }
 }
 
 // Where the open block starts.
@@ -95,122 +149,55 @@ fn next_not_immunized(n: usize, k: u8) -> usize
     if k == lines::IN { n + 1 } else { n }
 }
 
-// The day of birth that the nearest IP gives.
-fn next_born(born: u32, k: u8, line: &[u8]) -> u32
-    ensures { λ r. ⌜ r ≡ nextBorn born k (now (line .entry)) ⌝ }
+// What later lines ask of the nearest IP, II and IN, after a line.
+fn next_known(file: &[u8], marks: &[u32], was: Known, h: Here) -> Known
+    requires { ⌜ ReadIn (now file) (now marks) ⌝ }
+    ensures { λ r. ⌜ r ≡ nextKnown (now (file .entry)) (now (marks .entry)) was h ⌝ }
 {
-    if k == lines::IP {
-        rules_plain::born(line)
-    } else {
-        born
-    }
-}
-
-// The day of the nearest line of kind j.
-fn next_day(j: u8, was: Day, k: u8, day: Day) -> Day
-    ensures { λ r. ⌜ r ≡ nextDay j was k day ⌝ }
-{
-    if k == j { day } else { was }
-}
-
-// What the nearest IP, II and IN give after a line of kind k, whose day this is.
-pub(crate) fn next_known(was: Known, k: u8, line: &[u8], day: Day) -> Known
-    ensures { λ r. ⌜ r ≡ nextKnown was k (now (line .entry)) day ⌝ }
-{
+    let k = h.kind;
+    let uli = next_uli(file, marks, k, was.uli);
+    let vaccine = h.vaccine;
     Known {
-        born: next_born(was.born, k, line),
-        ii_day: next_day(lines::II, was.ii_day, k, day),
-        in_day: next_day(lines::IN, was.in_day, k, day),
+        uli,
+        born: next_born(file, marks, k, was.born),
+        vaccine,
+        ii_day: next_day(lines::II, was.ii_day, k, h.day),
+        in_day: next_day(lines::IN, was.in_day, k, h.day),
     }
 }
 
-// The state after a line of kind k that stands at `here`.
-pub(crate) fn advance(st: State, k: u8, here: Span, next: usize, b: BlockAt, known: Known) -> State
-    requires { ⌜ (st .n + 1 < 2 ^ 64) × (st .place + 1 < 2 ^ 64) × (st .«not_immunized» + 1 < 2 ^ 64) ⌝ }
-    ensures { λ r. ⌜ r ≡ advanced st k here next b known ⌝ }
+// The block that is open after a line.
+fn next_block(file: &[u8], marks: &[u32], was: Block, h: Here) -> Block
+    ensures { λ r. ⌜ r ≡ nextBlock (now (file .entry)) (now (marks .entry)) was h ⌝ }
 {
-    let ip = next_of(lines::IP, st.ip, k, here);
-    let ii = next_of(lines::II, st.ii, k, here);
-    let refusal = next_of(lines::IN, st.refusal, k, here);
-    let last = next_last(st.last, k, b.inb, here);
-    let first = next_first(st.first, st.many, k, b.joined, next);
+    let k = h.kind;
+    let facts = h.facts;
+    let last = next_open(file, marks, was.last, k, facts.inb);
+    let first = next_first(was.first, was.many, k, facts.joined, h.next);
+    Block {
+        last,
+        run: next_run(was.run, k, facts.inb, h.block, h.next),
+        many: next_many(was.many, k, facts.joined),
+        first,
+    }
+}
+
+// The state after a line.
+pub(crate) fn advance(file: &[u8], marks: &[u32], st: State, h: Here) -> State
+    requires { ⌜ ReadIn (now file) (now marks) ⌝ }
+    requires { ⌜ (st .n + 1 < 2 ^ 64) × (st .place + 1 < 2 ^ 64) × (st .«not_immunized» + 1 < 2 ^ 64) ⌝ }
+    ensures { λ r. ⌜ r ≡ advanced (now (file .entry)) (now (marks .entry)) st h ⌝ }
+{
+    let k = h.kind;
+    let known = next_known(file, marks, st.known, h);
+    let block = next_block(file, marks, st.block, h);
     State {
         n: st.n + 1,
         place: next_place(st.place, k),
-        ip,
-        ii,
-        refusal,
         known,
-        since: next_since(st.since, k, next),
-        last,
-        run: next_run(st.run, k, b.inb, b.from, next),
-        many: next_many(st.many, k, b.joined),
-        first,
+        since: next_since(st.since, k, h.next),
+        block,
         not_immunized: next_not_immunized(st.not_immunized, k),
-    }
-}
-
-// The record that a line of kind k belongs to: an IE to the nearest II, an IA to the nearest IN, any other to itself.
-pub(crate) fn head_at(st: State, k: u8, here: Span) -> Span
-    ensures { λ r. ⌜ r ≡ headAt st k here ⌝ }
-{
-    if k == lines::IE {
-        let ii = st.ii;
-        return ii;
-    }
-    if k == lines::IA {
-        let refusal = st.refusal;
-        return refusal;
-    }
-    here
-}
-
-// Where the IE lines that start at a position end.
-pub(crate) fn ie_end(file: &[u8], from: usize) -> usize
-    requires { ⌜ from ≤ length (now file) ⌝ }
-    requires { ⌜ (from < length (now file) → whole (take from (now file)) ≡ true) ⌝ }
-    ensures { λ r. ⌜ OwnIs (now (file .entry)) from r ⌝ }
-{
-    let mut at = from;
-    while at < file.len() {
-        let l = lines_fields::line_at(file, at);
-        let end = l.end;
-        if lines::kind_of(&file[at..end]) != lines::IE {
-            return at;
-        }
-        at = l.next;
-    }
-    at
-}
-
-// Whether a line that starts at a position is in a block, whether it joins the open one, and where its block starts.
-pub(crate) fn block_of(file: &[u8], at: usize, st: State, line: &[u8]) -> BlockAt
-    requires { ⌜ Holds (now file) at st ⌝ }
-    requires { ⌜ at ≤ length (now file) ⌝ }
-    ensures { λ r. ⌜ BlockIs (now (file .entry)) at st (now (line .entry)) r ⌝ }
-{
-    let run = st.run;
-    if rules_walk::in_block(line) {
-        let last = st.last;
-        let start = last.start;
-        let end = last.end;
-        if rules_walk::joins(line, &file[start..end]) {
-            return BlockAt {
-                inb: true,
-                joined: true,
-                from: run,
-            };
-        }
-        return BlockAt {
-            inb: true,
-            joined: false,
-            from: at,
-        };
-    }
-    BlockAt {
-        inb: false,
-        joined: false,
-        from: at,
     }
 }
 
@@ -223,22 +210,24 @@ pub(crate) fn start() -> State
         sound: false,
         number: 0,
     };
+    let last = no_open();
     State {
         n: 1,
         place: 1,
-        ip: none,
-        ii: none,
-        refusal: none,
         known: Known {
+            uli: none,
             born: 0,
+            vaccine: none,
             ii_day: no_day,
             in_day: no_day,
         },
         since: 0,
-        last: none,
-        run: 0,
-        many: false,
-        first: none,
+        block: Block {
+            last,
+            run: 0,
+            many: false,
+            first: none,
+        },
         not_immunized: 0,
     }
 }

@@ -106,3 +106,18 @@ one-area area xs a b p q = ext-getD 0 a b (p .same-length ∙ sym (q .same-lengt
     byte k (lt h) (gt g) = room-end k (omega arith)
     byte k (eq h) g = list-end k (omega arith)
     byte k (gt h) g = list-end k (omega arith)
+
+-- Findings put over no more findings leave what they leave over the area as lent.
+pub area-again : (area : Text) (xs ys : List Finding) → length xs ≤ length ys → areaAfter (areaAfter area xs) ys ≡ areaAfter area ys
+area-again area xs ys h =
+    let b = area-kept area xs in
+    let c = area-kept (areaAfter area xs) ys in
+    let same : length (areaAfter area xs) ≡ length area = b .same-length in
+    one-area area ys (areaAfter (areaAfter area xs) ys) (areaAfter area ys)
+    (record {
+      same-length = c .same-length ∙ same;
+      kept = λ i j l r k. c .kept i j l (omega arith) k;
+      past-list = λ k l. c .past-list k l ∙ b .past-list k (omega arith);
+      past-room = λ k l. c .past-room k (rw same l) ∙ b .past-room k l;
+    })
+    (area-kept area ys)

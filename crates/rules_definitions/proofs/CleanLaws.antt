@@ -6,20 +6,22 @@ use mathlib.Core.Path.{_≡_, refl, sym, ap, _∙_, subst}
 use mathlib.Core.Bool.{Bool, true, false, not, _&&_}
 use mathlib.Core.List.{List, [], _∷_, map}
 use lib.ListN.{length, getD, List·getD-eq-default}
-use lib.Dec.{T, eqb, leb, eqb-refl}
+use lib.Dec.{T, eqb, leb, eqb→eq}
 use borrow.Author.Tests.{leb-true, leb-false}
-use Rattle.house.specs.Text.{Text, same, those, isEmpty}
+use Rattle.house.specs.Text.{Text, same, any, those, isEmpty}
 use Rattle.house.specs.Members.{In, Distinct}
 use Rattle.house.proofs.Facts.{both-of, left-of, of-true}
 use Rattle.house.proofs.Members.{distinct-fewer, same-one}
 use Rattle.house.proofs.Decisions.{same-is}
 use Rattle.lines.specs.Records.{II, recs}
 use Rattle.ledger.specs.Ledger.{Event, eventForm}
-use Rattle.rules_definitions.specs.Forms.{fieldIn, text}
+use Rattle.lines.specs.Marks.{judgedText}
+use Rattle.lines.proofs.MarkLaws.{judged-nil}
+use Rattle.rules_definitions.specs.Forms.{fieldIn, text, table}
 use Rattle.rules_definitions.specs.Contexts.{Context, contextsOf, contextsIn}
 use Rattle.rules_definitions.specs.Blocks.{isInBlock, eventOf, isRepeated, beginsBlock, eventsOf, adds, changes, deletes}
 use Rattle.rules_definitions.specs.Seen.{Setting, seenAt}
-use Rattle.rules_definitions.specs.Rules.{rules, rulesIn, rulesOf, isBroken, isAt, asks, rule15, rule16, rule17, rule18}
+use Rattle.rules_definitions.specs.Rules.{Numbered, rules, rulesIn, rulesOf, rulesAt, isBroken, asks, rule15, rule16, rule17, rule18}
 use Rattle.rules_definitions.specs.Findings.{Finding, findingsOf}
 use Rattle.rules_definitions.specs.Claims.{CleanFile}
 use Rattle.rules_definitions.proofs.FindingLaws.{findings-listed}
@@ -31,13 +33,14 @@ use Rattle.rules_definitions.proofs.BlockLaws.{eventAt, beginsAt, begin
 -- a field that is not empty is there
 there : (fs : List Text) (f : ℕ) → T (not (isEmpty (fieldIn fs f))) → f ≤ length fs
 unfolding fieldIn
-there fs f t = go (leb f (length fs)) refl
+there fs f h = go (leb f (length fs)) refl
   where
-    go : (b : Bool) → leb f (length fs) ≡ b → f ≤ length fs
+    go : (t : Bool) → leb f (length fs) ≡ t → f ≤ length fs
     go true e = leb-true f (length fs) e
     go false e =
-        let h = leb-false f (length fs) e in
-        absurd (subst (λ (x : Text). T (not (isEmpty x))) (List·getD-eq-default ([] ∷ fs) [] {n = f} (omega arith)) t)
+        let l : length ([] ∷ fs) ≤ f = omega (arith, leb-false f (length fs) e) in
+        let n : judgedText (getD ([] ∷ fs) f []) ≡ [] = ap judgedText (List·getD-eq-default ([] ∷ fs) [] l) ∙ judged-nil in
+        absurd (subst (λ (x : Text). T (not (isEmpty x))) n h)
 
 module _ (s : Setting) (file : Text) (clean : findingsOf s file ≡ []) where
   unbroken : (h : Context) (f r : ℕ) → In h (contextsIn file) → 1 ≤ f → f ≤ length (h .line .fields) → T (isBroken s (seenAt s h) f r) → ⊥
@@ -47,27 +50,33 @@ module _ (s : Setting) (file : Text) (clean : findingsOf s file ≡ []) where
       (record { at = h; there = m; line-is = refl; from = lo; upto = hi; broken = t }))
 
   module _ (h : Context) (m : In h (contextsIn file)) (b : Named (h .line)) where
+    -- it is an II: the rules at a field of it are those at the field of an II
+    broken-here : (f r : ℕ) → T (any (λ (x : Numbered). eqb (x .number) r && x .broken s (seenAt s h) f) (rulesAt s II f)) → T (isBroken s (seenAt s h) f r)
+    unfolding isBroken seenAt
+    broken-here f r t =
+        subst (λ (k : ℕ). T (any (λ (x : Numbered). eqb (x .number) r && x .broken s (seenAt s h) f) (rulesAt s k f))) (sym (eqb→eq (h .line .kind) II (b .kind-is))) t
+
     not-15 : T (rule15 s (seenAt s h) 8) → ⊥
-    unfolding isBroken rulesOf rulesIn rules
-    not-15 t = unbroken h 8 15 m (omega arith) (there (h .line .fields) 8 (b .code-given)) (left-of (rule15 s (seenAt s h) 8) false t)
+    unfolding rulesAt rulesOf rulesIn rules table
+    not-15 t =
+        unbroken h 8 15 m (omega arith) (there (h .line .fields) 8 (b .code-given)) (broken-here 8 15 (left-of (rule15 s (seenAt s h) 8) false t))
 
     not-16 : T (rule16 s (seenAt s h) 4) → ⊥
-    unfolding isBroken rulesOf rulesIn rules
-    not-16 t = unbroken h 4 16 m (omega arith) (there (h .line .fields) 4 (b .type-given)) (left-of (rule16 s (seenAt s h) 4) false t)
+    unfolding rulesAt rulesOf rulesIn rules table
+    not-16 t =
+        unbroken h 4 16 m (omega arith) (there (h .line .fields) 4 (b .type-given)) (broken-here 4 16 (left-of (rule16 s (seenAt s h) 4) false t))
 
     not-17 : T (rule17 s (seenAt s h) 4) → ⊥
-    unfolding isBroken rulesOf rulesIn rules
-    not-17 t = unbroken h 4 17 m (omega arith) (there (h .line .fields) 4 (b .type-given)) (left-of (rule17 s (seenAt s h) 4) false t)
+    unfolding rulesAt rulesOf rulesIn rules table
+    not-17 t =
+        unbroken h 4 17 m (omega arith) (there (h .line .fields) 4 (b .type-given)) (broken-here 4 17 (left-of (rule17 s (seenAt s h) 4) false t))
 
     not-18 : T (rule18 s (seenAt s h) 4) → ⊥
-    unfolding isBroken rulesOf rulesIn rules
-    not-18 t = unbroken h 4 18 m (omega arith) (there (h .line .fields) 4 (b .type-given)) (left-of (rule18 s (seenAt s h) 4) false t)
+    unfolding rulesAt rulesOf rulesIn rules table
+    not-18 t =
+        unbroken h 4 18 m (omega arith) (there (h .line .fields) 4 (b .type-given)) (broken-here 4 18 (left-of (rule18 s (seenAt s h) 4) false t))
 
 -- The law of a file without findings
-
-at-II : (s : Setting) (h : Context) (f : ℕ) → Named (h .line) → T (isAt (seenAt s h) f II f)
-unfolding seenAt
-at-II s h f b = both-of (eqb (h .line .kind) 4) (eqb f f) (b .kind-is) (eqb-refl f)
 
 module _ (s : Setting) (file : Text) (clean : findingsOf s file ≡ []) where
   hs : List Context
@@ -78,9 +87,7 @@ module _ (s : Setting) (file : Text) (clean : findingsOf s file ≡ []) where
 
   never-repeats : (h : Context) → In h (contextsIn file) → T (beginsAt h) → T (isRepeated (h .line) (h .before)) → ⊥
   unfolding rule15 seenAt
-  never-repeats h m t r =
-      let b = first-named h t in
-      not-15 s file clean h m b (both-of (isAt (seenAt s h) 8 II 8) (isRepeated (h .line) (h .before)) (at-II s h 8 b) r)
+  never-repeats h m t r = not-15 s file clean h m (first-named h t) r
 
   once : Distinct (map eventAt (those beginsAt hs))
   unfolding hs contextsIn contextsOf
@@ -101,13 +108,12 @@ module _ (s : Setting) (file : Text) (clean : findingsOf s file ≡ []) where
       ne
       (sym (same-is (text (p .0 .line) 4) type (b .1)) ∙ ap (λ (h : Context). text (h .line) 4) i ∙ same-is (text (q .0 .line) 4) other (c .1))
 
-  asks-it : (type : Text) (h : Context) → T (beginsBlock type h) → T (asks (seenAt s h) 4 type)
+  asks-it : (type : Text) (h : Context) → T (beginsBlock type h) → T (asks (seenAt s h) type)
   unfolding asks seenAt
   asks-it type h t =
       let p = begins-block type h t in
       let i = begins-in (h .line) (h .before) (p .0) .0 in
-      both-of (isAt (seenAt s h) 4 II 4) (isInBlock (h .line) && same (text (h .line) 4) type) (at-II s h 4 (named (h .line) i))
-      (both-of (isInBlock (h .line)) (same (text (h .line) 4) type) i (p .1))
+      both-of (isInBlock (h .line)) (same (text (h .line) 4) type) i (p .1)
 
   -- the first II's event is live, or it is not, as its type asks
   live-or : (h : Context) → (b : Bool) → s .live (eventOf (h .line)) ≡ b → (T (not (s .live (eventOf (h .line)))) → ⊥) → T (s .live (eventOf (h .line)))
@@ -118,7 +124,7 @@ module _ (s : Setting) (file : Text) (clean : findingsOf s file ≡ []) where
   unfolding rule16 seenAt hs
   add-new h m t l =
       not-16 s file clean h m (first-named h (begins-block adds h t .0))
-      (both-of (asks (seenAt s h) 4 adds) (s .live (eventOf (h .line))) (asks-it adds h t) l)
+      (both-of (asks (seenAt s h) adds) (s .live (eventOf (h .line))) (asks-it adds h t) l)
 
   change-live : (h : Context) → In h hs → T (beginsBlock changes h) → T (s .live (eventOf (h .line)))
   unfolding rule17 seenAt hs
@@ -126,7 +132,7 @@ module _ (s : Setting) (file : Text) (clean : findingsOf s file ≡ []) where
       live-or h (s .live (eventOf (h .line))) refl
       (λ n.
       not-17 s file clean h m (first-named h (begins-block changes h t .0))
-      (both-of (asks (seenAt s h) 4 changes) (not (s .live (eventOf (h .line)))) (asks-it changes h t) n))
+      (both-of (asks (seenAt s h) changes) (not (s .live (eventOf (h .line)))) (asks-it changes h t) n))
 
   delete-live : (h : Context) → In h hs → T (beginsBlock deletes h) → T (s .live (eventOf (h .line)))
   unfolding rule18 seenAt hs
@@ -134,7 +140,7 @@ module _ (s : Setting) (file : Text) (clean : findingsOf s file ≡ []) where
       live-or h (s .live (eventOf (h .line))) refl
       (λ n.
       not-18 s file clean h m (first-named h (begins-block deletes h t .0))
-      (both-of (asks (seenAt s h) 4 deletes) (not (s .live (eventOf (h .line)))) (asks-it deletes h t) n))
+      (both-of (asks (seenAt s h) deletes) (not (s .live (eventOf (h .line)))) (asks-it deletes h t) n))
 
   from-live : (type : Text) → ((h : Context) → In h hs → T (beginsBlock type h) → T (s .live (eventOf (h .line)))) → (e : Event) → In e (eventsOf type hs) → T (s .live e)
   from-live type law e m =

@@ -7,8 +7,8 @@ use mathlib.Core.Bool.{Bool, true, false, cond, _&&_}
 use mathlib.Core.Logic.{_⊎_, inl, inr, ⊎-elim}
 use mathlib.Core.List.{List, [], _∷_, _++_}
 use lib.ListN.{length}
-use lib.Dec.{T, eqb, ltb, eqb→eq, eqb-refl, ltb→lt}
-use Rattle.house.specs.Text.{any, joined}
+use lib.Dec.{T, eqb, ltb, eqb→eq, eqb-refl, ltb→lt, lt→ltb}
+use Rattle.house.specs.Text.{any, those, joined}
 use Rattle.house.specs.Members.{In, Rising}
 use Rattle.house.proofs.Facts.{both, both-of, either, left-of, right-of, of-true}
 use Rattle.house.proofs.Members.{in-cases, in-left, in-right, in-joined, joined-in, rising-append, one-rising}
@@ -16,7 +16,7 @@ use Rattle.house.proofs.Small.{Three, lt, eq, gt, three}
 use Rattle.lines.specs.Records.{Rec, recs}
 use Rattle.rules_definitions.specs.Contexts.{Context, contextsFrom, contextsOf, contextsIn}
 use Rattle.rules_definitions.specs.Seen.{Setting, Seen, seenAt}
-use Rattle.rules_definitions.specs.Rules.{Numbered, rules, rulesIn, rulesOf, isBroken, brokenBy, brokenAt}
+use Rattle.rules_definitions.specs.Rules.{Numbered, rules, rulesIn, rulesOf, isPlaced, rulesAt, isBroken, brokenBy, brokenAt}
 use Rattle.rules_definitions.specs.Findings.{Finding, found, fieldsFindings, lineFindings, findingsOf}
 use Rattle.rules_definitions.specs.Claims.{Broken, Before, Ascending, FindingsListed, OneList}
 
@@ -26,6 +26,18 @@ use Rattle.rules_definitions.specs.Claims.{Broken, Before, Ascending, Fi
 abbrev rises : ℕ → List Numbered → Bool
 rises n [] = true
 rises n (x ∷ xs) = ltb n (x .number) && rises (x .number) xs
+
+-- so do those that pass a test
+rises-those : (p : Numbered → Bool) (n m : ℕ) (xs : List Numbered) → n ≤ m → T (rises m xs) → T (rises n (those p xs))
+rises-those p n m [] h t = tt
+rises-those p n m (x ∷ xs) h t =
+    let q = both (ltb m (x .number)) (rises (x .number) xs) t in
+    let l = ltb→lt m (x .number) (q .0) in
+    go (lt→ltb n (x .number) (omega arith)) (rises-those p (x .number) (x .number) xs (omega arith) (q .1)) (rises-those p n (x .number) xs (omega arith) (q .1)) (p x)
+  where
+    go : T (ltb n (x .number)) → T (rises (x .number) (those p xs)) → T (rises n (those p xs)) → (b : Bool) → T (rises n (cond b (x ∷ those p xs) (those p xs)))
+    go a c d true = both-of (ltb n (x .number)) (rises (x .number) (those p xs)) a c
+    go a c d false = d
 
 module _ (s : Setting) (v : Seen) (f : ℕ) where
   abbrev isRule : ℕ → Numbered → Bool
@@ -79,18 +91,18 @@ module _ (s : Setting) (v : Seen) (f : ℕ) where
       go h u true = ((λ y m. broken-above (x .number) y xs h m), u)
       go h u false = u
 
-  -- the eighteen rise
+  -- the rules rise
   pub at-up : Rising _<_ (brokenAt s v f)
-  unfolding brokenAt rulesOf rulesIn rules
-  at-up = broken-up 0 rules tt
+  unfolding brokenAt rulesAt rulesOf rulesIn rules
+  at-up = broken-up 0 (rulesAt s (v .line .kind) f) (rises-those (isPlaced (v .line .kind) f) 0 0 rules (omega arith) tt)
 
   pub in-at : (r : ℕ) → In r (brokenAt s v f) → T (isBroken s v f r)
   unfolding brokenAt isBroken
-  in-at r m = in-broken r (rulesOf s) m
+  in-at r m = in-broken r (rulesAt s (v .line .kind) f) m
 
   pub at-in : (r : ℕ) → T (isBroken s v f r) → In r (brokenAt s v f)
   unfolding brokenAt isBroken
-  at-in r t = broken-in r (rulesOf s) t
+  at-in r t = broken-in r (rulesAt s (v .line .kind) f) t
 
 -- The fields of a line
 

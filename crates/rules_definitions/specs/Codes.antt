@@ -1,9 +1,9 @@
 -- Codes in fields: which fields hold one, how the book writes it, whether it is known, and whether it is in force.
 -- Assumes nothing.
 use Prim.Native.Nat.{ℕ}
-use mathlib.Core.Bool.{Bool, cond, _&&_, _||_}
+use mathlib.Core.Bool.{Bool, cond, _&&_}
 use mathlib.Core.List.{[], _∷_}
-use lib.Dec.{eqb, ltb}
+use lib.Dec.{eqb}
 use Rattle.house.specs.Text.{Text, bytes, oneOf, number}
 use Rattle.lines.specs.Records.{Rec, II, IE, IN, IA}
 use Rattle.book.specs.Book.{codeText, vaccine, antigen, reason, manufacturer, dosageType, reasonNot, withReason, withAntigen}
@@ -38,10 +38,6 @@ bookKind k f =
     (cond (eqb k IN && eqb f 6) reasonNot
     (cond (eqb k IA && eqb f 4) antigen
     0))))))
-
--- "II 8 to 11, 13 and 14, IE 4, IN 6, IA 4"
-unfoldable pub isCodeField : ℕ → ℕ → Bool
-isCodeField k f = (eqb k II && eqb f 9) || ((eqb k II && eqb f 10) || ltb 0 (bookKind k f))
 
 -- "read as two digits (a leading blank becomes zero)"
 unfoldable pub reasonRead : Text → Text

@@ -7,11 +7,12 @@ use lib.ListN.{length, getD}
 use lib.Dec.{eqb, ltb}
 use Rattle.house.specs.Text.{Text, bytes, any, front, afterFront, isEmpty, same, oneOf, within, isDigit, isLetter, isLetterOrDigit, isGraphic, isBlank, run, number}
 use Rattle.dates.specs.Dates.{isDate}
+use Rattle.lines.specs.Marks.{judgedText}
 use Rattle.lines.specs.Records.{Rec, IV, IH, IP, II, IE, IN, IA, IF}
 
--- The text of field f as judged, counted from 1; empty where the line has none. (Change request 4 drops blanks here.)
+-- the text of field f as judged, counted from 1; empty where the line has none
 unfoldable pub fieldIn : List Text → ℕ → Text
-fieldIn fs f = getD ([] ∷ fs) f []
+fieldIn fs f = judgedText (getD ([] ∷ fs) f [])
 
 abbrev pub text : Rec → ℕ → Text
 text l f = fieldIn (l .fields) f

@@ -2,6 +2,7 @@
 -- Assumes nothing.
 pub mod LookLaws
 -- What the functions' own needs ask
+mod CodeNeeds
 mod RecordNeeds
 mod FieldNeeds
 -- No second answer

@@ -4,7 +4,6 @@ use mathlib.Core.Path.{_≡_, sym, _∙_}
 use mathlib.Core.Bool.{Bool}
 use Prim.Native.Nat.{ℕ}
 use Rattle.house.specs.Text.{Text}
-use Rattle.lines.specs.Records.{recOf}
 use Rattle.book.specs.declared.Sections.{Sections}
 use Rattle.rules_fields.specs.declared.Day.{Day}
 use Rattle.rules_fields.specs.declared.Facts.{Facts}
@@ -17,30 +16,30 @@ one : {A : Type 0} (x : A) → One x
 one x r q e f = e ∙ sym f
 
 module _ (t book : Text) (q : Sections) (day : Day) where
-  code-field : (k : ℕ) (x : Bool) (f of : ℕ) (code : Text) → One (codeBy k x f t of code book q day)
-  code-field k x f of code = one _
+  code-field : (k : ℕ) (x : Bool) (f : ℕ) (code : Text) → One (codeBy k x f t code book q day)
+  code-field k x f code = one _
 
-  ie4-antigen : (line head since : Text) → One (ie4Antigen line head since t book q day)
-  ie4-antigen line head since = one _
+  ie4-antigen : (vaccine since : Text) → One (ie4Antigen t vaccine since book q day)
+  ie4-antigen vaccine since = one _
 
   ii8-vaccine : (own first : Text) (facts : Facts) → One (ii8Vaccine t own first book q day facts)
   ii8-vaccine own first facts = one _
 
-  ii11-reason : (line : Text) (x : Bool) → One (ii11Reason (recOf line) x t book q day)
-  ii11-reason line x = one _
+  ii11-reason : (x : Bool) (vaccine : Text) → One (ii11Reason x t vaccine book q day)
+  ii11-reason x vaccine = one _
 
-  ii13-dosage-type : (line : Text) (x : Bool) → One (ii13DosageType (recOf line) x t book q day)
-  ii13-dosage-type line x = one _
+  ii13-dosage-type : (x : Bool) (dosage : Text) → One (ii13DosageType x t dosage book q day)
+  ii13-dosage-type x dosage = one _
 
 ii4-type : (t : Text) (facts : Facts) → One (ii4Type t facts)
 ii4-type t facts = one _
 
-module _ (line t : Text) (x : Bool) where
-  ii9-site : One (ii9Site (recOf line) x t)
+module _ (x : Bool) (t u : Text) where
+  ii9-site : One (ii9Site x t u)
   ii9-site = one _
 
-  ii10-method : One (ii10Method (recOf line) x t)
+  ii10-method : One (ii10Method x t u)
   ii10-method = one _
 
-  ii12-dosage : One (ii12Dosage (recOf line) x t)
+  ii12-dosage : One (ii12Dosage x t u)
   ii12-dosage = one _

@@ -5,16 +5,9 @@ use mathlib.Core.Bool.{Bool, true, false, cond, _&&_, and-false}
 use mathlib.Core.List.{[], _∷_}
 use Prim.Native.Nat.{ℕ}
 use borrow.Author.Needs.{needs}
-use borrow.Author.Tests.{ne-eqb}
-use lib.Dec.{eqb}
 use Rattle.house.specs.Text.{Text, same}
-use Rattle.lines_fields.specs.Lines.{fieldOf}
-use Rattle.lines.specs.Records.{recOf}
-use Rattle.rules_definitions.specs.Forms.{text}
-use Rattle.rules_definitions.specs.Rules.{siteWrong, methodWrong}
-use Rattle.rules_forms.proofs.FieldLaws.{text-is}
 use Rattle.rules_fields.specs.Fields.{rules4and5Of, rules16to18At}
-use Rattle.rules_fields.proofs.LookLaws.{low-broken, code-empty, code-given}
+use Rattle.rules_fields.proofs.CodeNeeds.{low-broken, code-empty, code-given}
 
 -- a rule of tests that are asked one after the other
 module _ (u v : Bool) (n : ℕ) (x : Bool) (e : x ≡ u) where
@@ -48,28 +41,8 @@ module _ (known : Bool) where
 
 pub ruleset for-site = (needs, low-broken, code-empty, code-given, site-known, site-unknown)
 
--- rule9_site, rule9_method
-module _ (line s m : Text) (x : Bool) where
-  pub site-two : m ≡ fieldOf line 10 → x ≡ siteWrong s m → x ≡ siteWrong s (text (recOf line) 10)
-  site-two q e = rw (text-is line 10, ← q) e
-
-  pub method-two : s ≡ fieldOf line 9 → x ≡ methodWrong s m → x ≡ methodWrong (text (recOf line) 9) m
-  method-two p e = rw (text-is line 9, ← p) e
-
--- rule12_antigen_again
-pub sound-no : (a : Bool) (n r m : ℕ) → r ≡ n → (r ≡ 0 → ⊥) → 0 ≡ cond (eqb n 0 && a) m 0
-sound-no a n r m e h = rw (← e, ne-eqb r 0 h)
-
-module _ (a : Bool) (n r m : ℕ) (e : r ≡ n) (h : r ≡ 0) (x : Bool) (f : x ≡ a) where
-  pub sound-not : x ≡ false → 0 ≡ cond (eqb n 0 && a) m 0
-  sound-not k = rw (← e, h, ← f, k)
-
-  pub sound-yes : x ≡ true → m ≡ cond (eqb n 0 && a) m 0
-  sound-yes k = rw (← e, h, ← f, k)
-
-pub ruleset for-again = (needs, sound-no, sound-not, sound-yes)
-
-pub ruleset for-asked = (needs, asked-no, asked-not, asked-yes, asked-more, asked-none, site-two, method-two)
+-- rule9_site, rule9_method, rule10_partner_missing, rule12_antigen_again
+pub ruleset for-asked = (needs, asked-no, asked-not, asked-yes, asked-more, asked-none)
 
 -- rule13_antigens_differ
 module _ (r : ℕ) (a b c d : Bool) where

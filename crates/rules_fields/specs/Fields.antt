@@ -1,24 +1,23 @@
--- The rules that are broken at a field with later rules, as up to three numbers, 0 for none. The field's text is handed on, and, for an II,
--- whether it is a relaxed event.
+-- The rules that are broken at a field with later rules, as up to three numbers, 0 for none. Each is of texts as judged: the field's own, and
+-- those of the fields that it goes with; and, for an II, of whether it is a relaxed event.
 -- Assumes nothing.
 use Prim.Native.Nat.{ℕ}
 use mathlib.Core.Bool.{Bool, false, not, cond, _&&_, _||_}
 use mathlib.Core.List.{[]}
 use lib.Dec.{eqb}
 use Rattle.house.specs.Text.{Text, any, same, isEmpty, pad}
-use Rattle.lines.specs.Records.{Rec, II, IE, recOf, recs}
+use Rattle.lines.specs.Records.{II, IE, recs}
 use Rattle.book.specs.declared.Sections.{Sections}
-use Rattle.book.specs.Book.{vaccine, antigen, reason, dosageType, withReason, withAntigen, codeText}
-use Rattle.rules_definitions.specs.Forms.{text, isGiven}
+use Rattle.book.specs.Book.{codeText}
 use Rattle.rules_definitions.specs.Blocks.{adds, changes, deletes}
-use Rattle.rules_definitions.specs.Codes.{isSite, isMethod, reasonRead}
+use Rattle.rules_definitions.specs.Codes.{bookKind, isSite, isMethod, reasonRead, pairKind}
 use Rattle.rules_definitions.specs.Rules.{siteWrong, methodWrong, countsSound, setsDiffer}
-use Rattle.rules_forms.specs.FieldLeaves.{lowestIn}
+use Rattle.rules_forms.specs.FieldLeaves.{lowestIn, soundIn, givenIn, lacksIn}
 use Rattle.rules_lists.specs.Among.{antigenIs}
 use Rattle.rules_fields.specs.declared.Broken.{Broken}
 use Rattle.rules_fields.specs.declared.Day.{Day}
 use Rattle.rules_fields.specs.declared.Facts.{Facts}
-use Rattle.rules_fields.specs.Look.{knownBy, forceBy}
+use Rattle.book.specs.LookUp.{knownBy, inForceBy}
 
 abbrev pub broken : ℕ → ℕ → ℕ → Broken
 broken a b c = record { a = a; b = b; c = c }
@@ -30,48 +29,57 @@ rules4and5Of empty known out = cond empty 0 (cond known (cond out 5 0) 4)
 -- rules 4 and 5 of a code of a kind of the book that is given
 abbrev pub rules4and5By : ℕ → Text → Text → Sections → Day → ℕ
 rules4and5By of code book q day =
-    rules4and5Of false (knownBy book q of (codeText of code [])) (day .sound && not (forceBy book q (day .number) of (codeText of code [])))
+    rules4and5Of false (knownBy book q of (codeText of code [])) (day .sound && not (inForceBy book q (day .number) of (codeText of code [])))
 
 -- a pair of codes is absent from the book, or out of force on a day that is sound
 abbrev pub isPairWrong : ℕ → Text → Text → Text → Sections → Day → Bool
 isPairWrong pair a b book q day =
-    not (knownBy book q pair (codeText pair a b)) || (day .sound && not (forceBy book q (day .number) pair (codeText pair a b)))
+    not (knownBy book q pair (codeText pair a b)) || (day .sound && not (inForceBy book q (day .number) pair (codeText pair a b)))
 
 -- rules 16 to 18, by the type
 unfoldable pub rules16to18At : Bool → Text → Bool → ℕ
 rules16to18At inb type live = cond inb (cond live (cond (same type adds) 16 0) (cond (same type changes) 17 (cond (same type deletes) 18 0))) 0
 
--- rules 1, 2, 4 and 5 at field f of a record of kind k with text t, read as this code of kind `of`
-abbrev pub codeBy : ℕ → Bool → ℕ → Text → ℕ → Text → Text → Sections → Day → ℕ
-codeBy k relaxed f t of code book q day =
-    lowestIn k relaxed f t (rules4and5Of (isEmpty t) (knownBy book q of (codeText of code [])) (day .sound && not (forceBy book q (day .number) of (codeText of code []))))
+-- rules 1, 2, 4 and 5 at field f of a record of kind k with text t, read as this code
+abbrev pub codeBy : ℕ → Bool → ℕ → Text → Text → Text → Sections → Day → ℕ
+codeBy k relaxed f t code book q day =
+    lowestIn k relaxed f t
+    (rules4and5Of (isEmpty t) (knownBy book q (bookKind k f) (codeText (bookKind k f) code []))
+    (day .sound && not (inForceBy book q (day .number) (bookKind k f) (codeText (bookKind k f) code []))))
 
--- field f of a line of kind k, with text t and this verdict on its code, has no pair to be wrong: the book lacks its code, or it is empty
-unfoldable pub unpairedBy : ℕ → ℕ → Rec → ℕ → Text → Bool
-unpairedBy a k l f t = eqb a 4 || (isEmpty t && not (isGiven k l f))
+-- field f of a record of kind k, with text t read as this code, is given, and the book has its code
+abbrev pub codeKnownBy : ℕ → ℕ → Text → Text → Text → Sections → Bool
+codeKnownBy k f t code book q = givenIn k f t && knownBy book q (bookKind k f) (codeText (bookKind k f) code [])
 
--- rule 11 at field f of a line of kind k, the pair being of kind `pair` and the vaccine in the head
-abbrev pub rule11By : ℕ → Rec → ℕ → ℕ → Text → ℕ → Rec → Text → Sections → Day → ℕ
-rule11By k l f of t pair head book q day =
+-- the field whose code goes with the vaccine: II 11 or IE 4
+unfoldable pub pairField : ℕ → ℕ
+pairField k = cond (eqb k II) 11 4
+
+-- a field with text t and this verdict on its code has no pair to be wrong: the book lacks its code, or it is empty
+unfoldable pub unpairedBy : ℕ → Text → Bool
+unpairedBy a t = eqb a 4 || isEmpty t
+
+-- rule 11 at II 11 or IE 4 with text t, read as this code, and this vaccine
+abbrev pub rule11By : ℕ → Text → Text → Text → Text → Sections → Day → ℕ
+rule11By k t code vaccine book q day =
     cond
-    ((isGiven II head 8 && knownBy book q vaccine (codeText vaccine (text head 8) [])) && (isGiven k l f && knownBy book q of (codeText of t []))
-    && isPairWrong pair (text head 8) t book q day)
+    (codeKnownBy II 8 vaccine vaccine book q && codeKnownBy k (pairField k) t code book q && isPairWrong (pairKind k) vaccine code book q day)
     11 0
 
--- rule 10 at a field with text t, which goes with another one
-abbrev pub rule10By : Rec → Bool → Text → ℕ → ℕ
-rule10By l relaxed t other = cond ((isEmpty t && isGiven II l other) && relaxed) 10 0
+-- rule 10 at a field with text t, which goes with another one, of this text
+abbrev pub rule10By : Bool → Text → ℕ → Text → ℕ
+rule10By relaxed t other u = cond (lacksIn t other u && relaxed) 10 0
 
--- rule 9 at II 9 with text t, and at II 10
-abbrev pub rule9AtSite : Rec → Text → ℕ
-rule9AtSite l t = cond (siteWrong t (text l 10) && (isGiven II l 9 && isGiven II l 10)) 9 0
+-- rule 9 at II 9, and at II 10
+abbrev pub rule9AtSite : Text → Text → ℕ
+rule9AtSite site method = cond (siteWrong site method && (givenIn II 9 site && givenIn II 10 method)) 9 0
 
-abbrev pub rule9AtMethod : Rec → Text → ℕ
-rule9AtMethod l t = cond (methodWrong (text l 9) t && (isGiven II l 9 && isGiven II l 10)) 9 0
+abbrev pub rule9AtMethod : Text → Text → ℕ
+rule9AtMethod site method = cond (methodWrong site method && (givenIn II 9 site && givenIn II 10 method)) 9 0
 
 -- rule 12 at an IE 4 with text t, the IE lines of its II before it being these
 abbrev pub rule12By : Text → Text → ℕ
-rule12By t since = cond (eqb (lowestIn IE false 4 t 0) 0 && any (antigenIs t) (recs since)) 12 0
+rule12By t since = cond (soundIn IE false 4 t && any (antigenIs t) (recs since)) 12 0
 
 -- rule 13, of the IE lines of an II that joins a block and of those of the block's first
 abbrev pub rule13By : Bool → Text → Text → ℕ
@@ -82,10 +90,9 @@ abbrev pub rule15By : Bool → ℕ
 rule15By repeated = cond repeated 15 0
 
 -- IE 4
-unfoldable pub ie4Antigen : Text → Text → Text → Text → Text → Sections → Day → Broken
-ie4Antigen line head since t book q day =
-    broken (codeBy IE false 4 t antigen t book q day) (rule11By IE (recOf line) 4 antigen t withAntigen (recOf head) book q day)
-    (rule12By t since)
+unfoldable pub ie4Antigen : Text → Text → Text → Text → Sections → Day → Broken
+ie4Antigen t vaccine since book q day =
+    broken (codeBy IE false 4 t t book q day) (rule11By IE t t vaccine book q day) (rule12By t since)
 
 -- II 4
 unfoldable pub ii4Type : Text → Facts → Broken
@@ -94,31 +101,29 @@ ii4Type t facts = broken (lowestIn II false 4 t 0) (rules16to18At (facts .inb) t
 -- II 8
 unfoldable pub ii8Vaccine : Text → Text → Text → Text → Sections → Day → Facts → Broken
 ii8Vaccine t own first book q day facts =
-    broken (codeBy II false 8 t vaccine t book q day)
-    (rule13By (facts .joined) own first)
-    (rule15By (facts .repeated))
+    broken (codeBy II false 8 t t book q day) (rule13By (facts .joined) own first) (rule15By (facts .repeated))
 
 -- II 9
-unfoldable pub ii9Site : Rec → Bool → Text → Broken
-ii9Site l relaxed t =
-    broken (lowestIn II relaxed 9 t (rules4and5Of (isEmpty t) (isSite t) false))
-    (rule9AtSite l t) (rule10By l relaxed t 10)
+unfoldable pub ii9Site : Bool → Text → Text → Broken
+ii9Site relaxed site method =
+    broken (lowestIn II relaxed 9 site (rules4and5Of (isEmpty site) (isSite site) false))
+    (rule9AtSite site method) (rule10By relaxed site 10 method)
 
 -- II 10
-unfoldable pub ii10Method : Rec → Bool → Text → Broken
-ii10Method l relaxed t =
-    broken (lowestIn II relaxed 10 t (rules4and5Of (isEmpty t) (isMethod t) false))
-    (rule9AtMethod l t) (rule10By l relaxed t 9)
+unfoldable pub ii10Method : Bool → Text → Text → Broken
+ii10Method relaxed site method =
+    broken (lowestIn II relaxed 10 method (rules4and5Of (isEmpty method) (isMethod method) false))
+    (rule9AtMethod site method) (rule10By relaxed method 9 site)
 
 -- II 11, its reason as two bytes
-unfoldable pub ii11Reason : Rec → Bool → Text → Text → Sections → Day → Broken
-ii11Reason l relaxed t book q day =
-    broken (codeBy II relaxed 11 t reason (pad 2 (reasonRead t)) book q day) (rule11By II l 11 reason (pad 2 (reasonRead t)) withReason l book q day) 0
+unfoldable pub ii11Reason : Bool → Text → Text → Text → Sections → Day → Broken
+ii11Reason relaxed t vaccine book q day =
+    broken (codeBy II relaxed 11 t (pad 2 (reasonRead t)) book q day) (rule11By II t (pad 2 (reasonRead t)) vaccine book q day) 0
 
 -- II 12
-unfoldable pub ii12Dosage : Rec → Bool → Text → Broken
-ii12Dosage l relaxed t = broken (lowestIn II relaxed 12 t 0) (rule10By l relaxed t 13) 0
+unfoldable pub ii12Dosage : Bool → Text → Text → Broken
+ii12Dosage relaxed t type = broken (lowestIn II relaxed 12 t 0) (rule10By relaxed t 13 type) 0
 
 -- II 13
-unfoldable pub ii13DosageType : Rec → Bool → Text → Text → Sections → Day → Broken
-ii13DosageType l relaxed t book q day = broken (codeBy II relaxed 13 t dosageType t book q day) (rule10By l relaxed t 12) 0
+unfoldable pub ii13DosageType : Bool → Text → Text → Text → Sections → Day → Broken
+ii13DosageType relaxed t dosage book q day = broken (codeBy II relaxed 13 t t book q day) (rule10By relaxed t 12 dosage) 0

@@ -1,4 +1,3 @@
 -- What the functions on the rules at a field answer; the rules themselves stand in crates/rules_definitions/specs.
 -- Assumes nothing.
-pub mod Look
 pub mod Fields

@@ -12,17 +12,10 @@ use crate::by_rule::rule13_antigens_differ;
 use crate::by_rule::rules16_to_18;
 use crate::codes::code_field;
 use crate::codes::rule11_pair;
-use book::ANTIGEN;
-use book::DOSAGE_TYPE;
-use book::REASON;
 use book::Sections;
-use book::VACCINE;
-use book::WITH_ANTIGEN;
-use book::WITH_REASON;
 use lines::IE;
 use lines::II;
 ghost use mathlib.Core.Path.{_≡_};
-ghost use Rattle.lines.specs.Records.{recOf};
 ghost use Rattle.rules_fields.specs.Fields.{rule15By, ii4Type, ii8Vaccine, ii9Site, ii10Method, ii11Reason, ii12Dosage, ii13DosageType, ie4Antigen};
 
 // II 4: rules 1, 2 and 16 to 18.
@@ -53,114 +46,87 @@ pub fn ii8_vaccine(
 ) -> Broken
     ensures { λ r. ⌜ r ≡ ii8Vaccine (now (t .entry)) (now (own .entry)) (now (first .entry)) (now (book .entry)) q day facts ⌝ }
 {
-    let a = code_field(II, false, 8, t, VACCINE, t, book, q, day);
+    let a = code_field(II, false, 8, t, t, book, q, day);
     let b = rule13_antigens_differ(facts.joined, own, first);
     let c = rule15_event_again(facts.repeated);
     Broken { a, b, c }
 }
 
 // II 9: rules 1, 2, 4, 9 and 10.
-pub fn ii9_site(line: &[u8], relaxed: bool, t: &[u8]) -> Broken
-    ensures { λ r. ⌜ r ≡ ii9Site (recOf (now (line .entry))) relaxed (now (t .entry)) ⌝ }
+pub fn ii9_site(relaxed: bool, site: &[u8], method: &[u8]) -> Broken
+    ensures { λ r. ⌜ r ≡ ii9Site relaxed (now (site .entry)) (now (method .entry)) ⌝ }
 {
-    let a = ii9_site_alone(relaxed, t);
-    let b = rule9_site(line, t);
-    let c = rule10_partner_missing(line, relaxed, t, 10);
+    let a = ii9_site_alone(relaxed, site);
+    let b = rule9_site(site, method);
+    let c = rule10_partner_missing(relaxed, site, 10, method);
     Broken { a, b, c }
 }
 
 // II 10: rules 1, 2, 4, 9 and 10.
-pub fn ii10_method(line: &[u8], relaxed: bool, t: &[u8]) -> Broken
-    ensures { λ r. ⌜ r ≡ ii10Method (recOf (now (line .entry))) relaxed (now (t .entry)) ⌝ }
+pub fn ii10_method(relaxed: bool, site: &[u8], method: &[u8]) -> Broken
+    ensures { λ r. ⌜ r ≡ ii10Method relaxed (now (site .entry)) (now (method .entry)) ⌝ }
 {
-    let a = ii10_method_alone(relaxed, t);
-    let b = rule9_method(line, t);
-    let c = rule10_partner_missing(line, relaxed, t, 9);
+    let a = ii10_method_alone(relaxed, method);
+    let b = rule9_method(site, method);
+    let c = rule10_partner_missing(relaxed, method, 9, site);
     Broken { a, b, c }
 }
 
 // II 11: rules 1, 2, 4, 5 and 11.
 pub fn ii11_reason(
-    line: &[u8],
     relaxed: bool,
     t: &[u8],
+    vaccine: &[u8],
     book: &[u8],
     q: Sections,
     day: Day,
 ) -> Broken
-    ensures { λ r. ⌜ r ≡ ii11Reason (recOf (now (line .entry))) relaxed (now (t .entry)) (now (book .entry)) q day ⌝ }
+    ensures { λ r. ⌜ r ≡ ii11Reason relaxed (now (t .entry)) (now (vaccine .entry)) (now (book .entry)) q day ⌝ }
 {
     let read = rules_tables::reason_read(t);
-    let a = code_field(II, relaxed, 11, t, REASON, &read, book, q, day);
-    let b = rule11_pair(
-        a,
-        II,
-        line,
-        11,
-        t,
-        REASON,
-        &read,
-        WITH_REASON,
-        line,
-        book,
-        q,
-        day,
-    );
+    let a = code_field(II, relaxed, 11, t, &read, book, q, day);
+    let b = rule11_pair(a, II, t, &read, vaccine, book, q, day);
     Broken { a, b, c: 0 }
 }
 
 // II 12: rules 1, 2 and 10.
-pub fn ii12_dosage(line: &[u8], relaxed: bool, t: &[u8]) -> Broken
-    ensures { λ r. ⌜ r ≡ ii12Dosage (recOf (now (line .entry))) relaxed (now (t .entry)) ⌝ }
+pub fn ii12_dosage(relaxed: bool, t: &[u8], dosage_type: &[u8]) -> Broken
+    ensures { λ r. ⌜ r ≡ ii12Dosage relaxed (now (t .entry)) (now («dosage_type» .entry)) ⌝ }
 {
     let a = rules_forms::rules1_and_2(II, relaxed, 12, t);
-    let b = rule10_partner_missing(line, relaxed, t, 13);
+    let b = rule10_partner_missing(relaxed, t, 13, dosage_type);
     Broken { a, b, c: 0 }
 }
 
 // II 13: rules 1, 2, 4, 5 and 10.
 pub fn ii13_dosage_type(
-    line: &[u8],
     relaxed: bool,
     t: &[u8],
+    dosage: &[u8],
     book: &[u8],
     q: Sections,
     day: Day,
 ) -> Broken
-    ensures { λ r. ⌜ r ≡ ii13DosageType (recOf (now (line .entry))) relaxed (now (t .entry)) (now (book .entry)) q day ⌝ }
+    ensures { λ r. ⌜ r ≡ ii13DosageType relaxed (now (t .entry)) (now (dosage .entry)) (now (book .entry)) q day ⌝ }
 {
-    let a = code_field(II, relaxed, 13, t, DOSAGE_TYPE, t, book, q, day);
-    let b = rule10_partner_missing(line, relaxed, t, 12);
+    let a = code_field(II, relaxed, 13, t, t, book, q, day);
+    let b = rule10_partner_missing(relaxed, t, 12, dosage);
     Broken { a, b, c: 0 }
 }
 
-// IE 4: rules 1, 2, 4, 5, 11 and 12.
+// IE 4: rules 1, 2, 4, 5, 11 and 12. The lines are the IE lines of its II before it.
 pub fn ie4_antigen(
-    line: &[u8],
-    head: &[u8],
-    since: &[u8],
     t: &[u8],
+    vaccine: &[u8],
+    since: &[u8],
     book: &[u8],
     q: Sections,
     day: Day,
 ) -> Broken
-    ensures { λ r. ⌜ r ≡ ie4Antigen (now (line .entry)) (now (head .entry)) (now (since .entry)) (now (t .entry)) (now (book .entry)) q day ⌝ }
+    ensures { λ r. ⌜ r ≡ ie4Antigen (now (t .entry)) (now (vaccine .entry)) (now (since .entry)) (now (book .entry)) q day ⌝ }
 {
-    let a = code_field(IE, false, 4, t, ANTIGEN, t, book, q, day);
-    let b = rule11_pair(
-        a,
-        IE,
-        line,
-        4,
-        t,
-        ANTIGEN,
-        t,
-        WITH_ANTIGEN,
-        head,
-        book,
-        q,
-        day,
-    );
+    let a = code_field(IE, false, 4, t, t, book, q, day);
+    let b = rule11_pair(a, IE, t, t, vaccine, book, q, day);
     let c = rule12_antigen_again(t, since);
     Broken { a, b, c }
 }

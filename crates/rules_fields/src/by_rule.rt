@@ -4,10 +4,9 @@ use lines::II;
 ghost use mathlib.Core.Path.{_≡_};
 ghost use mathlib.Core.Bool.{false, _&&_};
 ghost use Rattle.house.specs.Text.{isEmpty};
-ghost use Rattle.lines.specs.Records.{II, recOf};
-ghost use Rattle.rules_definitions.specs.Forms.{isGiven};
+ghost use Rattle.lines.specs.Records.{II};
 ghost use Rattle.rules_definitions.specs.Codes.{isSite, isMethod};
-ghost use Rattle.rules_forms.specs.FieldLeaves.{lowestIn};
+ghost use Rattle.rules_forms.specs.FieldLeaves.{lowestIn, givenIn};
 ghost use Rattle.rules_fields.specs.Fields.{rules4and5Of, rules16to18At, rule9AtSite, rule9AtMethod, rule10By, rule12By, rule13By};
 
 // II 9: rules 1, 2 and 4.
@@ -39,45 +38,45 @@ pub(crate) fn ii10_method_alone(relaxed: bool, t: &[u8]) -> u8
 }
 
 // Whether site and method are both given.
-fn both_given(line: &[u8]) -> bool
-    ensures { λ r. ⌜ r ≡ isGiven II (recOf (now (line .entry))) 9 && isGiven II (recOf (now (line .entry))) 10 ⌝ }
+fn both_given(site: &[u8], method: &[u8]) -> bool
+    ensures { λ r. ⌜ r ≡ givenIn II 9 (now (site .entry)) && givenIn II 10 (now (method .entry)) ⌝ }
 {
-    if rules_forms::is_given(II, line, 9) {
-        rules_forms::is_given(II, line, 10)
+    if rules_forms::is_given(II, 9, site) {
+        rules_forms::is_given(II, 10, method)
     } else {
         false
     }
 }
 
-// Rule 9 at II 9, whose text is the site.
-pub(crate) fn rule9_site(line: &[u8], site: &[u8]) -> u8
-    ensures { λ r. ⌜ r ≡ rule9AtSite (recOf (now (line .entry))) (now (site .entry)) ⌝ }
+// Rule 9 at II 9.
+pub(crate) fn rule9_site(site: &[u8], method: &[u8]) -> u8
+    ensures { λ r. ⌜ r ≡ rule9AtSite (now (site .entry)) (now (method .entry)) ⌝ }
 {
-    if rules_tables::rule9_site_wrong(site, lines_fields::field_of(line, 10)) {
-        if both_given(line) {
+    if rules_tables::rule9_site_wrong(site, method) {
+        if both_given(site, method) {
             return 9;
         }
     }
     0
 }
 
-// Rule 9 at II 10, whose text is the method.
-pub(crate) fn rule9_method(line: &[u8], method: &[u8]) -> u8
-    ensures { λ r. ⌜ r ≡ rule9AtMethod (recOf (now (line .entry))) (now (method .entry)) ⌝ }
+// Rule 9 at II 10.
+pub(crate) fn rule9_method(site: &[u8], method: &[u8]) -> u8
+    ensures { λ r. ⌜ r ≡ rule9AtMethod (now (site .entry)) (now (method .entry)) ⌝ }
 {
-    if rules_tables::rule9_method_wrong(lines_fields::field_of(line, 9), method) {
-        if both_given(line) {
+    if rules_tables::rule9_method_wrong(site, method) {
+        if both_given(site, method) {
             return 9;
         }
     }
     0
 }
 
-// Rule 10: a field is empty and the other given, in a relaxed event.
-pub(crate) fn rule10_partner_missing(line: &[u8], relaxed: bool, t: &[u8], other: usize) -> u8
-    ensures { λ r. ⌜ r ≡ rule10By (recOf (now (line .entry))) relaxed (now (t .entry)) other ⌝ }
+// Rule 10: a field is empty and the other, with this text, given, in a relaxed event.
+pub(crate) fn rule10_partner_missing(relaxed: bool, t: &[u8], other: usize, u: &[u8]) -> u8
+    ensures { λ r. ⌜ r ≡ rule10By relaxed (now (t .entry)) other (now (u .entry)) ⌝ }
 {
-    if rules_forms::rule10_lacks(line, t, other) {
+    if rules_forms::rule10_lacks(t, other, u) {
         if relaxed {
             return 10;
         }
@@ -89,7 +88,7 @@ pub(crate) fn rule10_partner_missing(line: &[u8], relaxed: bool, t: &[u8], other
 pub(crate) fn rule12_antigen_again(t: &[u8], since: &[u8]) -> u8
     ensures { λ r. ⌜ r ≡ rule12By (now (t .entry)) (now (since .entry)) ⌝ }
 {
-    if rules_forms::rules1_and_2(IE, false, 4, t) == 0 {
+    if rules_forms::sound_text(IE, false, 4, t) {
         if rules_lists::rule12_any_antigen(t, since) {
             return 12;
         }

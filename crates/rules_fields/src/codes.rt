@@ -1,27 +1,36 @@
 // Codes of the book: whether one is known, and the rules 4, 5 and 11.
 use crate::Day;
-use book::Found;
+use book::ANTIGEN;
+use book::DOSAGE_TYPE;
+use book::MANUFACTURER;
+use book::REASON;
+use book::REASON_NOT;
 use book::Sections;
 use book::Standing;
 use book::VACCINE;
+use book::WITH_ANTIGEN;
+use book::WITH_REASON;
+use lines::IA;
+use lines::IE;
 use lines::II;
+use lines::IN;
 ghost use mathlib.Core.Path.{_≡_};
-ghost use mathlib.Core.Bool.{false, _&&_};
+ghost use mathlib.Core.Bool.{false};
 ghost use mathlib.Core.List.{[]};
-ghost use Rattle.lines.specs.Records.{recOf};
 ghost use Rattle.book.specs.Book.{codeText};
-ghost use Rattle.rules_definitions.specs.Forms.{isGiven};
-ghost use Rattle.rules_fields.specs.Look.{knownBy};
-ghost use Rattle.rules_fields.specs.Fields.{rules4and5By, isPairWrong, codeBy, unpairedBy, rule11By};
+ghost use Rattle.rules_definitions.specs.Codes.{bookKind, pairKind};
+ghost use Rattle.book.specs.LookUp.{knownBy};
+ghost use Rattle.rules_fields.specs.Fields.{rules4and5By, isPairWrong, codeBy, codeKnownBy, pairField, unpairedBy, rule11By};
 
 // Whether the book has a code of a kind.
 fn is_known(book: &[u8], q: Sections, kind: u8, code: &[u8]) -> bool
     ensures { λ r. ⌜ r ≡ knownBy (now (book .entry)) q kind (codeText kind (now (code .entry)) []) ⌝ }
 {
-    let f = book::find(book, q, kind, code, &code[..0]);
-    match f {
-        Found::At(_) => true,
-        Found::Absent => false,
+    let s = book::look_up(book, q, kind, code, &code[..0], 0);
+    match s {
+        Standing::Unknown => false,
+        Standing::InForce => true,
+        Standing::OutOfForce => true,
     }
 }
 
@@ -49,19 +58,46 @@ fn pair_wrong(book: &[u8], q: Sections, kind: u8, a: &[u8], b: &[u8], day: Day) 
     }
 }
 
-// The lowest of rules 1, 2, 4 and 5 at field f of a record of a kind, with text t, read as a code of a kind of the book.
+// The kind of the book's entries that field f of a record of a kind names; 0 for none.
+fn book_kind(kind: u8, f: usize) -> u8
+    ensures { λ r. ⌜ r ≡ bookKind kind f ⌝ }
+{
+    match kind {
+        II => match f {
+            8 => VACCINE,
+            11 => REASON,
+            13 => DOSAGE_TYPE,
+            14 => MANUFACTURER,
+            _ => 0,
+        },
+        IE => match f {
+            4 => ANTIGEN,
+            _ => 0,
+        },
+        IN => match f {
+            6 => REASON_NOT,
+            _ => 0,
+        },
+        IA => match f {
+            4 => ANTIGEN,
+            _ => 0,
+        },
+        _ => 0,
+    }
+}
+
+// The lowest of rules 1, 2, 4 and 5 at field f of a record of a kind, with text t, read as a code.
 pub fn code_field(
     kind: u8,
     relaxed: bool,
     f: usize,
     t: &[u8],
-    of: u8,
     code: &[u8],
     book: &[u8],
     q: Sections,
     day: Day,
 ) -> u8
-    ensures { λ r. ⌜ r ≡ codeBy kind relaxed f (now (t .entry)) of (now (code .entry)) (now (book .entry)) q day ⌝ }
+    ensures { λ r. ⌜ r ≡ codeBy kind relaxed f (now (t .entry)) (now (code .entry)) (now (book .entry)) q day ⌝ }
 {
     let r = rules_forms::rules1_and_2(kind, relaxed, f, t);
     if r != 0 {
@@ -70,72 +106,69 @@ pub fn code_field(
     if t.len() == 0 {
         return 0;
     }
-    rules4_and_5_code(book, q, of, code, day)
+    rules4_and_5_code(book, q, book_kind(kind, f), code, day)
 }
 
-// Whether field f of a line is given and its code is known.
-fn is_known_at(
-    kind: u8,
-    line: &[u8],
-    f: usize,
-    of: u8,
-    code: &[u8],
-    book: &[u8],
-    q: Sections,
-) -> bool
-    ensures { λ r. ⌜ r ≡ isGiven kind (recOf (now (line .entry))) f && knownBy (now (book .entry)) q of (codeText of (now (code .entry)) []) ⌝ }
+// Whether field f of a record of a kind, with text t, is given, and the book has its code.
+fn is_known_at(kind: u8, f: usize, t: &[u8], code: &[u8], book: &[u8], q: Sections) -> bool
+    ensures { λ r. ⌜ r ≡ codeKnownBy kind f (now (t .entry)) (now (code .entry)) (now (book .entry)) q ⌝ }
 {
-    if rules_forms::is_given(kind, line, f) {
-        is_known(book, q, of, code)
+    if rules_forms::is_given(kind, f, t) {
+        is_known(book, q, book_kind(kind, f), code)
     } else {
         false
     }
 }
 
-// Whether field f of a line, with text t and the verdict a on its code, has no pair to ask for: the book lacks its code, or it is empty.
-fn is_unpaired(a: u8, kind: u8, line: &[u8], f: usize, t: &[u8]) -> bool
-    ensures { λ r. ⌜ r ≡ unpairedBy a kind (recOf (now (line .entry))) f (now (t .entry)) ⌝ }
+// Whether a field with text t and the verdict a on its code has no pair to ask for: the book lacks its code, or it is empty.
+fn is_unpaired(a: u8, t: &[u8]) -> bool
+    ensures { λ r. ⌜ r ≡ unpairedBy a (now (t .entry)) ⌝ }
 {
     if a == 4 {
         return true;
     }
-    if t.len() == 0 {
-        if rules_forms::is_given(kind, line, f) {
-            false
-        } else {
-            true
-        }
+    t.len() == 0
+}
+
+// The kind of the pair of a vaccine and the code of a field of a record of a kind.
+fn pair_kind(kind: u8) -> u8
+    ensures { λ r. ⌜ r ≡ pairKind kind ⌝ }
+{
+    if kind == II {
+        WITH_REASON
     } else {
-        false
+        WITH_ANTIGEN
     }
 }
 
-// Rule 11 at field f of a line, with text t and the verdict a on its code: the pair of its code with the vaccine of its II, where both are known.
-// The pair is asked for first: most are in force.
+// The field of a record of a kind whose code goes with the vaccine.
+fn pair_field(kind: u8) -> usize
+    ensures { λ r. ⌜ r ≡ pairField kind ⌝ }
+{
+    if kind == II { 11 } else { 4 }
+}
+
+// Rule 11 at II 11 or IE 4, with text t and the verdict a on its code: the pair of its code with this vaccine, where both are known. The pair
+// is asked for first: most are in force.
 pub(crate) fn rule11_pair(
     a: u8,
     kind: u8,
-    line: &[u8],
-    f: usize,
     t: &[u8],
-    of: u8,
     code: &[u8],
-    pair: u8,
-    head: &[u8],
+    vaccine: &[u8],
     book: &[u8],
     q: Sections,
     day: Day,
 ) -> u8
-    requires { ⌜ (a ≡ 4 → knownBy (now book) q of (codeText of (now code) []) ≡ false) ⌝ }
-    ensures { λ r. ⌜ r ≡ rule11By kind (recOf (now (line .entry))) f of (now (code .entry)) pair (recOf (now (head .entry))) (now (book .entry)) q day ⌝ }
+    requires { ⌜ (a ≡ 4 → knownBy (now book) q (bookKind kind (pairField kind)) (codeText (bookKind kind (pairField kind)) (now code) []) ≡ false) ⌝ }
+    ensures { λ r. ⌜ r ≡ rule11By kind (now (t .entry)) (now (code .entry)) (now (vaccine .entry)) (now (book .entry)) q day ⌝ }
 {
-    if is_unpaired(a, kind, line, f, t) {
+    if is_unpaired(a, t) {
         return 0;
     }
-    let vaccine = lines_fields::field_of(head, 8);
-    if pair_wrong(book, q, pair, vaccine, code, day) {
-        if is_known_at(II, head, 8, VACCINE, vaccine, book, q) {
-            if is_known_at(kind, line, f, of, code, book, q) {
+    if pair_wrong(book, q, pair_kind(kind), vaccine, code, day) {
+        if is_known_at(II, 8, vaccine, vaccine, book, q) {
+            if is_known_at(kind, pair_field(kind), t, code, book, q) {
                 return 11;
             }
         }

@@ -1,24 +1,17 @@
 -- What each need of the functions on a line's fields asks.
 -- Assumes nothing.
-use mathlib.Core.Path.{_≡_, refl, sym, _∙_}
+use mathlib.Core.Path.{_≡_, refl}
 use mathlib.Core.Bool.{Bool, true, false, not, cond, _&&_, and-false}
 use mathlib.Core.List.{[], _∷_}
-use Prim.Native.Nat.{ℕ, suc, _+_, _-_, _≤_, _<_}
-use native.Mathlib.Omega.{arith}
+use Prim.Native.Nat.{ℕ}
 use borrow.Author.Needs.{needs}
-use borrow.Author.Tests.{eq-eqb, ne-eqb}
+use borrow.Author.Tests.{ne-eqb}
 use lib.Dec.{eqb}
-use lib.ListN.{length, take, drop}
+use lib.ListN.{length}
 use Rattle.house.specs.Text.{Text, isEmpty, same}
-use Rattle.house.proofs.Suffix.{rest}
-use Rattle.lines_fields.specs.Lines.{fieldsOf, fieldOf, fieldsLen}
-use Rattle.lines.specs.Records.{Rec, II, recOf}
-use Rattle.lines_fields.proofs.FieldLaws.{fields-le}
-use Rattle.rules_definitions.specs.Forms.{anything, table, formOf, isJudged, isRelaxed, relaxedBy, isSound, isGiven}
-use Rattle.rules_forms.proofs.ClassLaws.{within-low, within-high}
-use Rattle.rules_forms.specs.FieldLeaves.{outOfProvince, optionalIn, lowestIn, soundAs}
-use Rattle.rules_forms.proofs.FieldLaws.{text-is, field-is, relaxed-is, empty-true, empty-false, lowest-either, lowest-filled, sound-as, field-after}
-use Rattle.rules_forms.proofs.SoundLaws.{given-by}
+use Rattle.rules_definitions.specs.Forms.{anything, table, formOf, isJudged}
+use Rattle.rules_forms.specs.FieldLeaves.{outOfProvince, relaxedIf, optionalIn, lowestIn, soundIn, givenIn, lacksIn}
+use Rattle.rules_forms.proofs.FieldLaws.{empty-true, empty-false}
 
 pub same-either : (b : Bool) → true ≡ cond b true true
 same-either true = refl
@@ -36,60 +29,41 @@ module _ (k f : ℕ) (t : Text) where
 
 pub ruleset for-form-of = (needs, form-kind, form-none)
 
--- after: a text's rest, and its fields
-module _ (t : Text) (f s : ℕ) (e : s ≡ fieldsLen f t) where
-  pub after-in : s ≤ length t
-  after-in = rw e (fields-le f t)
-
-  pub after-is : take (length t - s) (drop s t) ≡ drop (fieldsLen f t) t
-  after-is = rw (← e) (rest t s)
-
-pub ruleset for-after-fields = (needs, after-in, after-is)
-
--- is_out_of_province, relaxed
-module _ (r t : Text) (d : t ≡ fieldOf r 1) where
-  module _ (h : length t ≡ 0) (w : Text) (g : w ≡ fieldOf r 2) where
-    pub refused-none : length w ≡ 0 → false ≡ outOfProvince (fieldOf r 1) (fieldOf r 2)
+-- is_out_of_province
+module _ (t w : Text) where
+  module _ (h : length t ≡ 0) where
+    pub province-none : length w ≡ 0 → false ≡ outOfProvince t w
     unfolding outOfProvince
-    refused-none k = simp (← d, ← g, empty-true t h, empty-true w k)
+    province-none k = simp (empty-true t h, empty-true w k)
 
-    pub refused-why : (length w ≡ 0 → ⊥) → true ≡ outOfProvince (fieldOf r 1) (fieldOf r 2)
+    pub province-country : (length w ≡ 0 → ⊥) → true ≡ outOfProvince t w
     unfolding outOfProvince
-    refused-why k = simp (← d, ← g, empty-true t h, empty-false w k)
+    province-country k = simp (empty-true t h, empty-false w k)
 
   module _ (h : length t ≡ 0 → ⊥) (x : Bool) (e : x ≡ same t (65 ∷ 66 ∷ [])) where
-    pub refused-ab : x ≡ true → false ≡ outOfProvince (fieldOf r 1) (fieldOf r 2)
+    pub province-ab : x ≡ true → false ≡ outOfProvince t w
     unfolding outOfProvince
-    refused-ab k = simp (← d, empty-false t h, ← e, k)
+    province-ab k = simp (empty-false t h, ← e, k)
 
-    pub refused-other : x ≡ false → true ≡ outOfProvince (fieldOf r 1) (fieldOf r 2)
+    pub province-other : x ≡ false → true ≡ outOfProvince t w
     unfolding outOfProvince
-    refused-other k = simp (← d, empty-false t h, ← e, k)
+    province-other k = simp (empty-false t h, ← e, k)
 
-pub ruleset for-refused = (needs, refused-none, refused-why, refused-ab, refused-other)
+pub ruleset for-is-out-of-province = (needs, province-none, province-country, province-ab, province-other)
 
-module _ (l v : Text) (a : v ≡ drop (fieldsLen 4 l) l) (t : Text) (d : t ≡ fieldOf v 1) (x : Bool) (e : x ≡ same t (72 ∷ [])) where
-  is-fifth : fieldOf l 5 ≡ t
-  is-fifth = sym (d ∙ field-after l v 4 0 a)
+-- relaxed
+module _ (t5 t18 t19 t20 : Text) (x : Bool) (e : x ≡ same t5 (72 ∷ [])) where
+  pub relaxed-h : x ≡ true → true ≡ relaxedIf t5 t18 t19 t20
+  unfolding relaxedIf
+  relaxed-h k = simp (← e, k)
 
-  pub relaxed-h : x ≡ true → true ≡ relaxedBy (fieldsOf l)
-  unfolding relaxedBy
-  relaxed-h k = simp (field-is, is-fifth, ← e, k)
+  pub relaxed-20 : x ≡ false → (length t20 ≡ 0 → ⊥) → true ≡ relaxedIf t5 t18 t19 t20
+  unfolding relaxedIf
+  relaxed-20 n k = simp (← e, n, empty-false t20 k)
 
-  module _ (n : x ≡ false) (r : Text) (b : r ≡ drop (fieldsLen 13 v) v) (u : Text) (g : u ≡ fieldOf r 3) where
-    later : (j : ℕ) → fieldOf l (suc (4 + (13 + j))) ≡ fieldOf r (suc j)
-    later j = sym (field-after v r 13 j b ∙ field-after l v 4 (13 + j) a)
-
-    is-last : fieldOf l 20 ≡ u
-    is-last = later 2 ∙ sym g
-
-    pub relaxed-20 : (length u ≡ 0 → ⊥) → true ≡ relaxedBy (fieldsOf l)
-    unfolding relaxedBy
-    relaxed-20 k = simp (field-is, is-fifth, ← e, n, is-last, empty-false u k)
-
-    pub relaxed-18 : (y : Bool) → length u ≡ 0 → y ≡ outOfProvince (fieldOf r 1) (fieldOf r 2) → y ≡ relaxedBy (fieldsOf l)
-    unfolding relaxedBy outOfProvince
-    relaxed-18 y k p = simp (field-is, is-fifth, ← e, n, is-last, empty-true u k, later 0, later 1) p
+  pub relaxed-18 : (y : Bool) → x ≡ false → length t20 ≡ 0 → y ≡ outOfProvince t18 t19 → y ≡ relaxedIf t5 t18 t19 t20
+  unfolding relaxedIf
+  relaxed-18 y n k p = simp (← e, n, empty-true t20 k) p
 
 pub ruleset for-relaxed = (needs, relaxed-h, relaxed-20, relaxed-18)
 
@@ -127,53 +101,32 @@ module _ (k : ℕ) (relaxed : Bool) (f : ℕ) (t : Text) where
 
 pub ruleset for-basic = (needs, basic-unjudged, basic-optional, rule1-missing, basic-sound, rule2-misformed)
 
--- relaxed_at
-module _ (k : ℕ) (l : Text) (f : ℕ) (t : Text) where
-  pub asked-filled : (length t ≡ 0 → ⊥) → lowestIn k false f t 0 ≡ lowestIn k (isRelaxed (recOf l)) f t 0
-  asked-filled n = lowest-filled k f t 0 false (isRelaxed (recOf l)) n
-
-  pub asked-kind : (k ≡ 4 → ⊥) → lowestIn k false f t 0 ≡ lowestIn k (isRelaxed (recOf l)) f t 0
-  asked-kind n = lowest-either k f t 0 false (isRelaxed (recOf l)) (rw (ne-eqb k 4 n))
-
-  pub asked-low : k ≡ II → f < 9 → lowestIn k false f t 0 ≡ lowestIn k (isRelaxed (recOf l)) f t 0
-  asked-low e h = lowest-either k f t 0 false (isRelaxed (recOf l)) (rw (eq-eqb k II e) (within-low 9 15 f h))
-
-  pub asked-high : k ≡ II → 16 ≤ f → lowestIn k false f t 0 ≡ lowestIn k (isRelaxed (recOf l)) f t 0
-  asked-high e h = lowest-either k f t 0 false (isRelaxed (recOf l)) (rw (eq-eqb k II e) (within-high 9 15 f (omega arith)))
-
-  pub asked-line : (x : Bool) → x ≡ relaxedBy (fieldsOf l) → lowestIn k x f t 0 ≡ lowestIn k (isRelaxed (recOf l)) f t 0
-  asked-line x e = rw (relaxed-is l, ← e)
-
-pub ruleset for-relaxed-at = (needs, asked-filled, asked-kind, asked-low, asked-high, asked-line)
-
--- sound_text, is_sound
-pub sound-rule : (k : ℕ) (l : Rec) (f : ℕ) (t : Text) (x : Bool) (r : ℕ)
-    → lowestIn k x f t 0 ≡ lowestIn k (isRelaxed l) f t 0 → r ≡ lowestIn k x f t 0 → eqb r 0 ≡ soundAs k l f t
-unfolding soundAs
-sound-rule k l f t x r d e = rw (e, d)
+-- sound_text
+pub sound-rule : (k : ℕ) (x : Bool) (f : ℕ) (t : Text) (r : ℕ) → r ≡ lowestIn k x f t 0 → eqb r 0 ≡ soundIn k x f t
+unfolding soundIn
+sound-rule k x f t r e = rw e
 
 pub ruleset for-sound-text = (needs, sound-rule)
 
-pub sound-by : (k : ℕ) (l t : Text) (f : ℕ) (x : Bool) → t ≡ fieldOf l f → x ≡ soundAs k (recOf l) f t → x ≡ isSound k (recOf l) f
-sound-by k l t f x d e = rw (← sound-as k (recOf l) f, text-is l f, ← d) e
+-- is_given, rule10_lacks
+module _ (k f : ℕ) (t : Text) where
+  pub given-empty : length t ≡ 0 → false ≡ givenIn k f t
+  unfolding givenIn
+  given-empty h = rw (empty-true t h)
 
-pub ruleset for-sound = (needs, sound-by)
-
--- is_given, lacks
-module _ (k : ℕ) (l : Text) (f : ℕ) (t : Text) (d : t ≡ fieldOf l f) where
-  pub given-empty : length t ≡ 0 → false ≡ isGiven k (recOf l) f
-  given-empty h = rw (given-by k (recOf l) f, text-is l f, ← d, empty-true t h)
-
-  pub given-form : (x : Bool) → (length t ≡ 0 → ⊥) → x ≡ formOf k f t → x ≡ isGiven k (recOf l) f
-  given-form x n e = rw (given-by k (recOf l) f, text-is l f, ← d, empty-false t n) e
+  pub given-form : (x : Bool) → (length t ≡ 0 → ⊥) → x ≡ formOf k f t → x ≡ givenIn k f t
+  unfolding givenIn
+  given-form x n e = rw (empty-false t n) e
 
 pub ruleset for-given = (needs, given-empty, given-form)
 
-module _ (l t : Text) (other : ℕ) where
-  pub lacks-not : (length t ≡ 0 → ⊥) → false ≡ isEmpty t && isGiven 4 (recOf l) other
+module _ (t : Text) (other : ℕ) (u : Text) where
+  pub lacks-not : (length t ≡ 0 → ⊥) → false ≡ lacksIn t other u
+  unfolding lacksIn
   lacks-not n = rw (empty-false t n)
 
-  pub lacks-is : (x : Bool) → length t ≡ 0 → x ≡ isGiven 4 (recOf l) other → x ≡ isEmpty t && isGiven 4 (recOf l) other
+  pub lacks-is : (x : Bool) → length t ≡ 0 → x ≡ givenIn 4 other u → x ≡ lacksIn t other u
+  unfolding lacksIn
   lacks-is x h e = rw (empty-true t h) e
 
 pub ruleset for-rule10-lacks = (needs, lacks-not, lacks-is)

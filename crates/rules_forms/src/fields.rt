@@ -8,14 +8,10 @@ use lines::II;
 use lines::IN;
 use lines::IP;
 use lines::IV;
-ghost use mathlib.Core.Bool.{_&&_};
 ghost use mathlib.Core.Path.{_≡_};
-ghost use Rattle.house.specs.Text.{isEmpty};
-ghost use lib.ListN.{drop};
-ghost use Rattle.lines_fields.specs.Lines.{fieldsOf, fieldOf, fieldsLen};
-ghost use Rattle.lines.specs.Records.{IH, IP, II, IE, IN, IA, IF, recOf};
-ghost use Rattle.rules_definitions.specs.Forms.{formOf, isJudged, relaxedBy, isRelaxed, isSound, isGiven};
-ghost use Rattle.rules_forms.specs.FieldLeaves.{outOfProvince, optionalIn, lowestIn, soundAs};
+ghost use Rattle.lines.specs.Records.{IH, IP, II, IE, IN, IA, IF};
+ghost use Rattle.rules_definitions.specs.Forms.{formOf, isJudged};
+ghost use Rattle.rules_forms.specs.FieldLeaves.{outOfProvince, relaxedIf, optionalIn, lowestIn, soundIn, givenIn, lacksIn};
 
 // The form of field f of an IH.
 fn form_ih(f: usize, t: &[u8]) -> bool
@@ -166,40 +162,33 @@ fn is_judged(kind: u8, f: usize) -> bool
     }
 }
 
-// A line's text after its first f fields.
-pub fn after_fields(text: &[u8], f: usize) -> &[u8]
-    ensures { λ r. ⌜ now r ≡ drop (fieldsLen f (now (text .entry))) (now (text .entry)) ⌝ }
+// Whether II 18 and 19 relax an event.
+fn is_out_of_province(province: &[u8], country: &[u8]) -> bool
+    ensures { λ r. ⌜ r ≡ outOfProvince (now (province .entry)) (now (country .entry)) ⌝ }
 {
-    let start = lines_fields::field_start(text, f);
-    &text[start..]
-}
-
-// Whether II 18 and 19, the first two fields of the rest of a line, relax an event.
-fn is_out_of_province(rest: &[u8]) -> bool
-    ensures { λ r. ⌜ r ≡ outOfProvince (fieldOf (now (rest .entry)) 1) (fieldOf (now (rest .entry)) 2) ⌝ }
-{
-    let t = lines_fields::field_of(rest, 1);
-    if t.len() == 0 {
-        if lines_fields::field_of(rest, 2).len() == 0 {
+    if province.len() == 0 {
+        if country.len() == 0 {
             return false;
         } else {
             return true;
         }
     }
-    if house::same(t, b"AB") { false } else { true }
+    if house::same(province, b"AB") {
+        false
+    } else {
+        true
+    }
 }
 
-// Whether an II is a relaxed event, by fields 5, 18, 19 and 20. The line is read once: to 18 from the start of 5, and on from there.
-pub fn relaxed(line: &[u8]) -> bool
-    ensures { λ r. ⌜ r ≡ relaxedBy (fieldsOf (now (line .entry))) ⌝ }
+// Whether an II with these texts of fields 5, 18, 19 and 20 is a relaxed event.
+pub fn relaxed(t5: &[u8], t18: &[u8], t19: &[u8], t20: &[u8]) -> bool
+    ensures { λ r. ⌜ r ≡ relaxedIf (now (t5 .entry)) (now (t18 .entry)) (now (t19 .entry)) (now (t20 .entry)) ⌝ }
 {
-    let fifth = after_fields(line, 4);
-    if house::same(lines_fields::field_of(fifth, 1), b"H") {
+    if house::same(t5, b"H") {
         return true;
     }
-    let rest = after_fields(fifth, 13);
-    if lines_fields::field_of(rest, 3).len() == 0 {
-        is_out_of_province(rest)
+    if t20.len() == 0 {
+        is_out_of_province(t18, t19)
     } else {
         true
     }
@@ -241,55 +230,29 @@ pub fn rules1_and_2(kind: u8, relaxed: bool, f: usize, t: &[u8]) -> u8
     }
 }
 
-// Whether a line is a relaxed event, where the answer decides if field f with this text is sound; elsewhere false, unread.
-fn relaxed_at(kind: u8, line: &[u8], f: usize, t: &[u8]) -> bool
-    ensures { λ r. ⌜ lowestIn kind r f (now (t .entry)) 0 ≡ lowestIn kind (isRelaxed (recOf (now (line .entry)))) f (now (t .entry)) 0 ⌝ }
+// Whether field f of a record of a kind is sound if this is its text, an II being a relaxed event or not: rules 1 and 2 find nothing in it.
+pub fn sound_text(kind: u8, relaxed: bool, f: usize, t: &[u8]) -> bool
+    ensures { λ r. ⌜ r ≡ soundIn kind relaxed f (now (t .entry)) ⌝ }
 {
-    if t.len() == 0 {
-        match kind {
-            II => match f {
-                9..=15 => relaxed(line),
-                _ => false,
-            },
-            _ => false,
-        }
-    } else {
-        false
-    }
+    rules1_and_2(kind, relaxed, f, t) == 0
 }
 
-// Whether field f of a line is sound, this being its text.
-pub fn sound_text(kind: u8, line: &[u8], f: usize, t: &[u8]) -> bool
-    ensures { λ r. ⌜ r ≡ soundAs kind (recOf (now (line .entry))) f (now (t .entry)) ⌝ }
+// Whether field f of a record of a kind is sound and not empty if this is its text.
+pub fn is_given(kind: u8, f: usize, t: &[u8]) -> bool
+    ensures { λ r. ⌜ r ≡ givenIn kind f (now (t .entry)) ⌝ }
 {
-    let loose = relaxed_at(kind, line, f, t);
-    rules1_and_2(kind, loose, f, t) == 0
-}
-
-// Whether field f of a line is sound: rules 1 and 2 find nothing in it.
-pub fn is_sound(kind: u8, line: &[u8], f: usize) -> bool
-    ensures { λ r. ⌜ r ≡ isSound kind (recOf (now (line .entry))) f ⌝ }
-{
-    sound_text(kind, line, f, lines_fields::field_of(line, f))
-}
-
-// Whether field f of a line is sound and not empty.
-pub fn is_given(kind: u8, line: &[u8], f: usize) -> bool
-    ensures { λ r. ⌜ r ≡ isGiven kind (recOf (now (line .entry))) f ⌝ }
-{
-    let t = lines_fields::field_of(line, f);
     if t.len() == 0 {
         return false;
     }
     form_of(kind, f, t)
 }
 
-// Rule 10: whether this text of a field of an II is empty and the other field given.
-pub fn rule10_lacks(line: &[u8], t: &[u8], other: usize) -> bool
-    ensures { λ r. ⌜ r ≡ (isEmpty (now (t .entry)) && isGiven II (recOf (now (line .entry))) other) ⌝ }
+// Rule 10: whether this text of a field of an II is empty and the other field, with this text, given.
+pub fn rule10_lacks(t: &[u8], other: usize, u: &[u8]) -> bool
+    ensures { λ r. ⌜ r ≡ lacksIn (now (t .entry)) other (now (u .entry)) ⌝ }
 {
     if t.len() == 0 {
-        is_given(II, line, other)
+        is_given(II, other, u)
     } else {
         false
     }

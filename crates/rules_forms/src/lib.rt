@@ -4,9 +4,7 @@ mod classes;
 mod fields;
 mod texts;
 
-pub use fields::after_fields;
 pub use fields::is_given;
-pub use fields::is_sound;
 pub use fields::relaxed;
 pub use fields::rule10_lacks;
 pub use fields::rules1_and_2;

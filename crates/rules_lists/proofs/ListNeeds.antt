@@ -1,6 +1,6 @@
 -- What each need of the functions over the lines of a part asks.
 -- Assumes nothing.
-use mathlib.Core.Path.{_≡_, refl, sym, _∙_}
+use mathlib.Core.Path.{_≡_, refl, sym, ap, _∙_}
 use mathlib.Core.Bool.{Bool, true, false, _&&_, and-false}
 use mathlib.Core.List.{List}
 use Prim.Native.Nat.{ℕ, _-_, _≤_, _<_}
@@ -12,19 +12,19 @@ use lib.ListN.{length, take, drop}
 use Rattle.house.specs.Text.{Text, any, all, same, run, number, isDigit}
 use Rattle.house.proofs.Small.{both}
 use Rattle.lines_fields.specs.declared.LineAt.{LineAt}
-use Rattle.lines_fields.specs.Lines.{fieldOf, fieldsLen, LineIs}
+use Rattle.lines_fields.specs.Lines.{LineIs}
+use Rattle.lines_fields.specs.Marks.{judgedOf}
 use Rattle.lines.specs.Records.{Rec, recordOf, recOf, recs}
 use Rattle.lines_fields.proofs.LineLaws.{left-falls}
 use Rattle.lines.proofs.PartLaws.{recs-past, recs-on}
-use Rattle.rules_definitions.specs.Forms.{text, countForm, isCount, isSound}
+use Rattle.rules_definitions.specs.Forms.{text, countForm, isCount, isRelaxed, isSound}
 use Rattle.rules_definitions.specs.Rules.{sameAntigen, doseOf, sameCount, allIn, countsSound, setsDiffer}
 use Rattle.rules_forms.specs.TextLeaves.{valueOf}
 use Rattle.rules_forms.proofs.TextLaws.{value-run}
-use Rattle.rules_forms.specs.FieldLeaves.{soundAs}
+use Rattle.rules_forms.specs.FieldLeaves.{relaxedIf, soundIn}
 use Rattle.rules_lists.specs.Among.{antigenIs, lotIs, doseIn, countIs, countIn, soundCount}
 use Rattle.rules_lists.proofs.StepNeeds.{step-same}
-use Rattle.rules_forms.proofs.FieldLaws.{text-is, kind-is, sound-as}
-use Rattle.rules_forms.proofs.FieldLaws.{field-after}
+use Rattle.rules_forms.proofs.FieldLaws.{text-is, kind-is, relaxed-is, lowest-filled, sound-in, sound-either}
 
 -- Loops over lines that ask the same of each
 module _ (p : Rec → Bool) (s : Text) (at : ℕ) (x : Bool) where
@@ -59,11 +59,29 @@ pub ruleset for-any-line = (needs, any-past, any-here, any-next, left-falls)
 pub ruleset for-all-lines = (needs, counts-start, all-past, all-here, all-next, left-falls)
 
 -- has_antigen
-pub antigen-here : (l t u : Text) (x : Bool) → u ≡ fieldOf l 4 → x ≡ same t u → x ≡ antigenIs t (recOf l)
+pub antigen-here : (l t u : Text) (x : Bool) → u ≡ judgedOf l 4 → x ≡ same t u → x ≡ antigenIs t (recOf l)
 unfolding antigenIs
 antigen-here l t u x d e = rw (text-is l 4, ← d) e
 
 pub ruleset for-antigen = (needs, antigen-here)
+
+-- is_relaxed, is_lot_sound
+pub relaxed-by : (l t5 t18 t19 t20 : Text) (x : Bool) → t5 ≡ judgedOf l 5 → t18 ≡ judgedOf l 18 → t19 ≡ judgedOf l 19 → t20 ≡ judgedOf l 20
+    → x ≡ relaxedIf t5 t18 t19 t20 → x ≡ isRelaxed (recOf l)
+relaxed-by l t5 t18 t19 t20 x a b c d e =
+    rw (relaxed-is (recOf l), text-is l 5, text-is l 18, text-is l 19, text-is l 20, ← a, ← b, ← c, ← d) e
+
+pub ruleset for-is-relaxed = (needs, relaxed-by)
+
+module _ (l t : Text) (x : Bool) where
+  pub lot-empty : (y : Bool) → y ≡ isRelaxed (recOf l) → x ≡ soundIn 4 y 15 t → x ≡ soundIn 4 (isRelaxed (recOf l)) 15 t
+  lot-empty y d e = rw (← d) e
+
+  pub lot-filled : (length t ≡ 0 → ⊥) → x ≡ soundIn 4 false 15 t → x ≡ soundIn 4 (isRelaxed (recOf l)) 15 t
+  unfolding soundIn
+  lot-filled n e = e ∙ ap (λ (r : ℕ). eqb r 0) (lowest-filled 4 15 t 0 false (isRelaxed (recOf l)) n)
+
+pub ruleset for-is-lot-sound = (needs, lot-empty, lot-filled)
 
 -- has_lot
 module _ (l t : Text) (k : ℕ) (d : k ≡ recordOf l) where
@@ -71,15 +89,15 @@ module _ (l t : Text) (k : ℕ) (d : k ≡ recordOf l) where
   unfolding lotIs
   lot-kind n = rw (kind-is, ← d, ne-eqb k 4 n)
 
-  module _ (z : k ≡ 4) (u : Text) (f : u ≡ fieldOf l 15) (x : Bool) (e : x ≡ same t u) where
+  module _ (z : k ≡ 4) (u : Text) (f : u ≡ judgedOf l 15) (x : Bool) (e : x ≡ same t u) where
     pub lot-other : x ≡ false → false ≡ lotIs t (recOf l)
     unfolding lotIs
     lot-other h = rw (kind-is, ← d, eq-eqb k 4 z, text-is l 15, ← f, ← e, h) (sym (and-false (isSound 4 (recOf l) 15)))
 
-    pub lot-here : (y : Bool) → x ≡ true → y ≡ soundAs 4 (recOf l) 15 u → y ≡ lotIs t (recOf l)
+    pub lot-here : (y : Bool) → x ≡ true → y ≡ soundIn 4 (isRelaxed (recOf l)) 15 u → y ≡ lotIs t (recOf l)
     unfolding lotIs
     lot-here y h g =
-        rw (kind-is, ← d, eq-eqb k 4 z, ← sound-as 4 (recOf l) 15, text-is l 15, ← f, ← e, h, ← g) (go y)
+        rw (kind-is, ← d, eq-eqb k 4 z, ← sound-in 4 (recOf l) 15, text-is l 15, ← f, ← e, h, ← g) (go y)
       where
         go : (b : Bool) → b ≡ b && true
         go true = refl
@@ -107,16 +125,15 @@ counts-are : (l : Rec) (t : Text) (n : ℕ) (ls : List Rec) → t ≡ text l 4 �
 unfolding countIn countIs sameCount sameAntigen
 counts-are l t n ls d e = rw (d, e)
 
--- has_count, count_among, counts_alike: a line l goes on at its field 4
-module _ (l v u : Text) (c : v ≡ drop (fieldsLen 3 l) l) (d : u ≡ fieldOf v 1) where
+-- has_count, count_among, counts_alike
+module _ (l u : Text) (d : u ≡ judgedOf l 4) where
   antigen-is : text (recOf l) 4 ≡ u
-  antigen-is = text-is l 4 ∙ sym (d ∙ field-after l v 3 0 c)
+  antigen-is = text-is l 4 ∙ sym d
 
-  -- and at its field 5
-  module _ (w r : Text) (n : ℕ) (f : w ≡ drop (fieldsLen 1 v) v) (g : r ≡ fieldOf w 1) (k : n ≡ doseIn r) where
+  module _ (r : Text) (n : ℕ) (g : r ≡ judgedOf l 5) (k : n ≡ doseIn r) where
     dose-there : doseOf (recOf l) ≡ n
     unfolding doseOf doseIn
-    dose-there = rw (text-is l 5, ← field-after l v 3 1 c, ← field-after v w 1 0 f, ← g) (sym k)
+    dose-there = rw (text-is l 5, ← g) (sym k)
 
     pub count-here : (t : Text) (m : ℕ) (x : Bool) → x ≡ same t u → x ≡ true → eqb m n ≡ countIs t m (recOf l)
     unfolding countIs
@@ -156,13 +173,18 @@ module _ (a b : List Rec) (x : Bool) (e : x ≡ all (countIn b) a) where
 
 pub ruleset for-rule13-sets-differ = (needs, step-same, differ-first, differ-second, differ-not)
 
-module _ (l : Rec) (x : Bool) (e : x ≡ isSound 5 l 4) where
-  pub sound-not : x ≡ false → false ≡ soundCount l
-  unfolding soundCount
-  sound-not h = rw (← e, h)
+module _ (l u : Text) (d : u ≡ judgedOf l 4) (x : Bool) (e : x ≡ soundIn 5 false 4 u) where
+  antigen-sound : isSound 5 (recOf l) 4 ≡ x
+  antigen-sound =
+      sym (sound-in 5 (recOf l) 4) ∙ sound-either 5 4 (text (recOf l) 4) (isRelaxed (recOf l)) false refl ∙ rw (text-is l 4, ← d) (sym e)
 
-  pub sound-both : (y : Bool) → x ≡ true → y ≡ isSound 5 l 5 → y ≡ soundCount l
+  pub sound-not : x ≡ false → false ≡ soundCount (recOf l)
   unfolding soundCount
-  sound-both y h f = rw (← e, h) f
+  sound-not h = rw (antigen-sound, h)
+
+  pub sound-both : (w : Text) (y : Bool) → x ≡ true → w ≡ judgedOf l 5 → y ≡ soundIn 5 false 5 w → y ≡ soundCount (recOf l)
+  unfolding soundCount
+  sound-both w y h g f =
+      rw (antigen-sound, h, ← sound-in 5 (recOf l) 5, sound-either 5 5 (text (recOf l) 5) (isRelaxed (recOf l)) false refl, text-is l 5, ← g) f
 
 pub ruleset for-count-sound = (needs, sound-not, sound-both)

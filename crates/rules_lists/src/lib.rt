@@ -1,15 +1,16 @@
 // What is asked of the lines of a part of the file: antigens, counts and lots given before.
 use lines::IE;
 use lines::II;
-use lines_fields::field_from;
-use rules_forms::after_fields;
+use lines_fields::judged_of;
 use rules_forms::is_count;
-use rules_forms::is_sound;
+use rules_forms::relaxed;
 use rules_forms::sound_text;
 use rules_forms::value;
 ghost use mathlib.Core.Path.{_≡_};
 ghost use Rattle.house.specs.Text.{any, all};
-ghost use Rattle.lines.specs.Records.{recOf, recs};
+ghost use Rattle.lines.specs.Records.{II, recOf, recs};
+ghost use Rattle.rules_definitions.specs.Forms.{isRelaxed};
+ghost use Rattle.rules_forms.specs.FieldLeaves.{soundIn};
 ghost use Rattle.rules_definitions.specs.Rules.{sameCount, countsSound, setsDiffer};
 ghost use Rattle.rules_lists.specs.Among.{antigenIs, lotIs, doseIn, countIs, countIn, inStep, soundCount};
 
@@ -17,7 +18,7 @@ ghost use Rattle.rules_lists.specs.Among.{antigenIs, lotIs, doseIn, coun
 fn has_antigen(line: &[u8], t: &[u8]) -> bool
     ensures { λ r. ⌜ r ≡ antigenIs (now (t .entry)) (recOf (now (line .entry))) ⌝ }
 {
-    house::same(t, lines_fields::field_of(line, 4))
+    house::same(t, judged_of(line, 4))
 }
 
 // Rule 12: whether one of these lines gives this antigen.
@@ -36,6 +37,26 @@ pub fn rule12_any_antigen(t: &[u8], since: &[u8]) -> bool
     false
 }
 
+// Whether a line is a relaxed event.
+fn is_relaxed(line: &[u8]) -> bool
+    ensures { λ r. ⌜ r ≡ isRelaxed (recOf (now (line .entry))) ⌝ }
+{
+    let t5 = judged_of(line, 5);
+    let t18 = judged_of(line, 18);
+    let t19 = judged_of(line, 19);
+    relaxed(t5, t18, t19, judged_of(line, 20))
+}
+
+// Whether this text of an II's lot is sound: an empty one is if the line is a relaxed event.
+fn is_lot_sound(line: &[u8], lot: &[u8]) -> bool
+    ensures { λ r. ⌜ r ≡ soundIn II (isRelaxed (recOf (now (line .entry)))) 15 (now (lot .entry)) ⌝ }
+{
+    if lot.len() == 0 {
+        return sound_text(II, is_relaxed(line), 15, lot);
+    }
+    sound_text(II, false, 15, lot)
+}
+
 // Whether a line is an II with this lot.
 fn has_lot(line: &[u8], t: &[u8]) -> bool
     ensures { λ r. ⌜ r ≡ lotIs (now (t .entry)) (recOf (now (line .entry))) ⌝ }
@@ -43,9 +64,9 @@ fn has_lot(line: &[u8], t: &[u8]) -> bool
     if lines::kind_of(line) != II {
         return false;
     }
-    let lot = lines_fields::field_of(line, 15);
+    let lot = judged_of(line, 15);
     if house::same(t, lot) {
-        sound_text(II, line, 15, lot)
+        is_lot_sound(line, lot)
     } else {
         false
     }
@@ -78,9 +99,8 @@ fn dose_of(t: &[u8]) -> u32
 fn has_count(line: &[u8], t: &[u8], dose: u32) -> bool
     ensures { λ r. ⌜ r ≡ countIs (now (t .entry)) dose (recOf (now (line .entry))) ⌝ }
 {
-    let fourth = after_fields(line, 3);
-    if house::same(t, field_from(fourth, 0)) {
-        dose == dose_of(field_from(after_fields(fourth, 1), 0))
+    if house::same(t, judged_of(line, 4)) {
+        dose == dose_of(judged_of(line, 5))
     } else {
         false
     }
@@ -106,9 +126,8 @@ fn any_count(t: &[u8], dose: u32, others: &[u8]) -> bool
 fn count_among(line: &[u8], others: &[u8]) -> bool
     ensures { λ r. ⌜ r ≡ countIn (recs (now (others .entry))) (recOf (now (line .entry))) ⌝ }
 {
-    let fourth = after_fields(line, 3);
-    let dose = dose_of(field_from(after_fields(fourth, 1), 0));
-    any_count(field_from(fourth, 0), dose, others)
+    let dose = dose_of(judged_of(line, 5));
+    any_count(judged_of(line, 4), dose, others)
 }
 
 // Whether each line's antigen is given as often among the others.
@@ -132,9 +151,8 @@ fn all_counted(ps: &[u8], others: &[u8]) -> bool
 fn counts_alike(line: &[u8], other: &[u8]) -> bool
     ensures { λ r. ⌜ r ≡ sameCount (recOf (now (line .entry))) (recOf (now (other .entry))) ⌝ }
 {
-    let fourth = after_fields(line, 3);
-    let dose = dose_of(field_from(after_fields(fourth, 1), 0));
-    has_count(other, field_from(fourth, 0), dose)
+    let dose = dose_of(judged_of(line, 5));
+    has_count(other, judged_of(line, 4), dose)
 }
 
 // Whether these lines and those, one by one, give the same antigens as often.
@@ -179,8 +197,8 @@ pub fn rule13_sets_differ(own: &[u8], first: &[u8]) -> bool
 fn count_sound(line: &[u8]) -> bool
     ensures { λ r. ⌜ r ≡ soundCount (recOf (now (line .entry))) ⌝ }
 {
-    if is_sound(IE, line, 4) {
-        is_sound(IE, line, 5)
+    if sound_text(IE, false, 4, judged_of(line, 4)) {
+        sound_text(IE, false, 5, judged_of(line, 5))
     } else {
         false
     }

@@ -4,10 +4,10 @@ use mathlib.Core.Path.{_≡_, sym, _∙_}
 use mathlib.Core.Bool.{Bool, false}
 use Prim.Native.Nat.{ℕ}
 use Rattle.house.specs.Text.{Text}
-use Rattle.lines.specs.Records.{recOf, recs}
+use Rattle.lines.specs.Records.{recs}
 use Rattle.rules_forms.specs.TextLeaves.{valueOf}
 use Rattle.rules_forms.specs.FieldLeaves.{lowestIn}
-use Rattle.rules_plain.specs.PlainFields.{rule7By, rule6By, rule8TodayBy, bornOf, rule8By, rule3By, rule14By}
+use Rattle.rules_plain.specs.PlainFields.{rule7By, rule6By, rule8TodayBy, bornBy, rule8By, rule3By, rule14By}
 
 abbrev One : {A : Type 0} → A → Type 0
 One {A} x = (r q : A) → r ≡ x → q ≡ x → r ≡ q
@@ -18,8 +18,8 @@ one x r q e f = e ∙ sym f
 field2-number : (k : ℕ) (t : Text) (place : ℕ) → One (lowestIn k false 2 t (rule7By (valueOf t) place))
 field2-number k t place = one _
 
-field3-uli : (k : ℕ) (t ip : Text) → One (lowestIn k false 3 t (rule6By t (recOf ip)))
-field3-uli k t ip = one _
+field3-uli : (k : ℕ) (t uli : Text) → One (lowestIn k false 3 t (rule6By t uli))
+field3-uli k t uli = one _
 
 ip25-birth : (t : Text) (today : ℕ) → One (lowestIn 3 false 25 t (rule8TodayBy t today))
 ip25-birth t today = one _
@@ -27,8 +27,8 @@ ip25-birth t today = one _
 ii6-in5-date : (k f : ℕ) (t : Text) (today born : ℕ) → One (lowestIn k false f t (rule8By t today born))
 ii6-in5-date k f t today born = one _
 
-born : (ip : Text) → One (bornOf (recOf ip))
-born ip = one _
+born : (t : Text) → One (bornBy t)
+born t = one _
 
 iv2-version : (t : Text) → One (lowestIn 1 false 2 t (rule3By t))
 iv2-version t = one _

@@ -14,15 +14,12 @@ use Rattle.house.specs.Text.{Text, any, isEmpty, same, number}
 use Rattle.dates.specs.Dates.{isDate, datedOf}
 use Rattle.house.proofs.Small.{clash}
 use Rattle.dates.proofs.DateLaws.{dated-true, dated-false}
-use Rattle.lines_fields.specs.Lines.{fieldOf}
-use Rattle.lines.specs.Records.{Rec, IP, recOf}
-use Rattle.rules_definitions.specs.Forms.{formOf, isUli, isJudged, isSound}
+use Rattle.lines.specs.Records.{Rec}
+use Rattle.rules_definitions.specs.Forms.{formOf, isUli, isJudged}
 use Rattle.rules_forms.specs.TextLeaves.{valueOf}
 use Rattle.rules_forms.specs.FieldLeaves.{optionalIn, lowestIn}
 use Rattle.rules_lists.specs.Among.{lotIs}
-use Rattle.rules_plain.specs.PlainFields.{rule7By, rule6By, rule8TodayBy, bornOf, rule8By, rule3By, rule14By}
-use Rattle.rules_forms.proofs.FieldLaws.{text-is}
-use Rattle.rules_forms.proofs.SoundLaws.{ip-3, ip-25}
+use Rattle.rules_plain.specs.PlainFields.{rule7By, rule6By, rule8TodayBy, bornBy, rule8By, rule3By, rule14By}
 
 -- the lowest rule: 1 or 2, or a later one where neither is broken
 module _ (k : ℕ) (x : Bool) (f : ℕ) (t : Text) (later r : ℕ) (e : r ≡ lowestIn k x f t 0) where
@@ -64,23 +61,23 @@ pub ruleset for-rule7-number = (needs, number-right, number-wrong)
 pub ruleset for-field2-number = (needs, rule-broken, rule-later, number-by)
 
 -- rule6_uli
-module _ (t p u : Text) (f : u ≡ fieldOf p 3) (y : Bool) (g : y ≡ same t u) where
-  pub uli-same : y ≡ true → 0 ≡ rule6By t (recOf p)
+module _ (t u : Text) (y : Bool) (g : y ≡ same t u) where
+  pub uli-same : y ≡ true → 0 ≡ rule6By t u
   unfolding rule6By
-  uli-same k = rw (text-is p 3, ← f, ← g, k) (go (isSound IP (recOf p) 3))
+  uli-same k = rw (← g, k) (go (isUli u))
     where
       go : (z : Bool) → _≡_ {A = ℕ} 0 (cond (z && false) 6 0)
       go true = refl
       go false = refl
 
   module _ (h : y ≡ false) (x : Bool) (e : x ≡ isUli u) where
-    pub uli-unsound : x ≡ false → 0 ≡ rule6By t (recOf p)
+    pub uli-unsound : x ≡ false → 0 ≡ rule6By t u
     unfolding rule6By
-    uli-unsound k = rw (ip-3 (recOf p), text-is p 3, ← f, ← e, k)
+    uli-unsound k = rw (← e, k)
 
-    pub uli-other : x ≡ true → 6 ≡ rule6By t (recOf p)
+    pub uli-other : x ≡ true → 6 ≡ rule6By t u
     unfolding rule6By
-    uli-other k = rw (ip-3 (recOf p), text-is p 3, ← f, ← e, k, ← g, h)
+    uli-other k = rw (← e, k, ← g, h)
 
 pub ruleset for-rule6-uli = (needs, uli-unsound, uli-same, uli-other)
 
@@ -130,14 +127,14 @@ module _ (t : Text) (d : Dated) (e : d ≡ datedOf t) where
     unfolding rule8By
     date-none born = rw (dated-false t (sym e ∙ h))
 
-module _ (p t : Text) (f : t ≡ fieldOf p 25) (d : Dated) (e : d ≡ datedOf t) where
-  pub born-day : (x : Date) → d ≡ Day x → x .number ≡ bornOf (recOf p)
-  unfolding bornOf
-  born-day x h = rw (ip-25 (recOf p), text-is p 25, ← f, is-dated t d e x h, day-is t d e x h)
+module _ (t : Text) (d : Dated) (e : d ≡ datedOf t) where
+  pub born-day : (x : Date) → d ≡ Day x → x .number ≡ bornBy t
+  unfolding bornBy
+  born-day x h = rw (is-dated t d e x h, day-is t d e x h)
 
-  pub born-none : d ≡ NoDate → 0 ≡ bornOf (recOf p)
-  unfolding bornOf
-  born-none h = rw (ip-25 (recOf p), text-is p 25, ← f, dated-false t (sym e ∙ h))
+  pub born-none : d ≡ NoDate → 0 ≡ bornBy t
+  unfolding bornBy
+  born-none h = rw (dated-false t (sym e ∙ h))
 
 pub ruleset for-rule8-after-today = (needs, day-after, day-right, day-none)
 

@@ -7,16 +7,16 @@ use lib.Dec.{eqb, ltb}
 use Rattle.house.specs.Text.{Text, bytes, any, same, number}
 use Rattle.lines.specs.Records.{Rec, IP}
 use Rattle.dates.specs.Dates.{isDate}
-use Rattle.rules_definitions.specs.Forms.{text, isSound}
+use Rattle.rules_definitions.specs.Forms.{text, isUli, isSound}
 use Rattle.rules_lists.specs.Among.{lotIs}
 
 -- rule 7: a number that is not its place
 unfoldable pub rule7By : ℕ → ℕ → ℕ
 rule7By n place = cond (eqb n place) 0 7
 
--- rule 6: a ULI that is not its IP's
-unfoldable pub rule6By : Text → Rec → ℕ
-rule6By t ip = cond (isSound IP ip 3 && not (same t (text ip 3))) 6 0
+-- rule 6: a ULI that is not this one, its IP's, which is sound
+unfoldable pub rule6By : Text → Text → ℕ
+rule6By t uli = cond (isUli uli && not (same t uli)) 6 0
 
 -- rule 8: a date after today
 unfoldable pub rule8TodayBy : Text → ℕ → ℕ
@@ -25,6 +25,10 @@ rule8TodayBy t today = cond (isDate t && ltb today (number t)) 8 0
 -- the day of birth that an IP gives, 0 where it gives none
 unfoldable pub bornOf : Rec → ℕ
 bornOf ip = cond (isSound IP ip 25) (number (text ip 25)) 0
+
+-- the day that this text of IP 25 gives
+unfoldable pub bornBy : Text → ℕ
+bornBy t = cond (isDate t) (number t) 0
 
 -- rule 8: a date after today or before the day of birth
 unfoldable pub rule8By : Text → ℕ → ℕ → ℕ

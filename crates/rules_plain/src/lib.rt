@@ -8,10 +8,10 @@ use rules_forms::value;
 use rules_lists::rule14_any_lot;
 ghost use mathlib.Core.Bool.{false};
 ghost use mathlib.Core.Path.{_≡_};
-ghost use Rattle.lines.specs.Records.{IV, IP, II, recOf, recs};
+ghost use Rattle.lines.specs.Records.{IV, IP, II, recs};
 ghost use Rattle.rules_forms.specs.TextLeaves.{valueOf};
 ghost use Rattle.rules_forms.specs.FieldLeaves.{lowestIn};
-ghost use Rattle.rules_plain.specs.PlainFields.{rule7By, rule6By, rule8TodayBy, bornOf, rule8By, rule3By, rule14By};
+ghost use Rattle.rules_plain.specs.PlainFields.{rule7By, rule6By, rule8TodayBy, bornBy, rule8By, rule3By, rule14By};
 
 // Rule 7, of a number and its place.
 fn rule7_number(n: u32, place: usize) -> u8
@@ -31,26 +31,25 @@ pub fn field2_number(kind: u8, t: &[u8], place: usize) -> u8
     rule7_number(value(t), place)
 }
 
-// Rule 6, of a ULI and the IP.
-fn rule6_uli(t: &[u8], ip: &[u8]) -> u8
-    ensures { λ r. ⌜ r ≡ rule6By (now (t .entry)) (recOf (now (ip .entry))) ⌝ }
+// Rule 6, of a ULI and its IP's.
+fn rule6_uli(t: &[u8], uli: &[u8]) -> u8
+    ensures { λ r. ⌜ r ≡ rule6By (now (t .entry)) (now (uli .entry)) ⌝ }
 {
-    let uli = lines_fields::field_of(ip, 3);
     if house::same(t, uli) {
         return 0;
     }
     if is_uli(uli) { 6 } else { 0 }
 }
 
-// Field 3 of a line below an IP: rules 1, 2 and 6.
-pub fn field3_uli(kind: u8, t: &[u8], ip: &[u8]) -> u8
-    ensures { λ r. ⌜ r ≡ lowestIn kind false 3 (now (t .entry)) (rule6By (now (t .entry)) (recOf (now (ip .entry)))) ⌝ }
+// Field 3 of a line below an IP with this ULI: rules 1, 2 and 6.
+pub fn field3_uli(kind: u8, t: &[u8], uli: &[u8]) -> u8
+    ensures { λ r. ⌜ r ≡ lowestIn kind false 3 (now (t .entry)) (rule6By (now (t .entry)) (now (uli .entry))) ⌝ }
 {
     let r = rules1_and_2(kind, false, 3, t);
     if r != 0 {
         return r;
     }
-    rule6_uli(t, ip)
+    rule6_uli(t, uli)
 }
 
 // Rule 8, of a date and today.
@@ -75,11 +74,11 @@ pub fn ip25_birth(t: &[u8], today: u32) -> u8
     rule8_after_today(t, today)
 }
 
-// The day of birth that an IP gives, 0 where it gives none.
-pub fn born(ip: &[u8]) -> u32
-    ensures { λ r. ⌜ r ≡ bornOf (recOf (now (ip .entry))) ⌝ }
+// The day of birth that this text of IP 25 gives, 0 where it gives none.
+pub fn born(t: &[u8]) -> u32
+    ensures { λ r. ⌜ r ≡ bornBy (now (t .entry)) ⌝ }
 {
-    let d = dates::Date::of(lines_fields::field_of(ip, 25));
+    let d = dates::Date::of(t);
     match d {
         dates::Dated::Day(day) => day.number,
         dates::Dated::NoDate => 0,

@@ -8,14 +8,10 @@ pub mod FindLaws
 pub mod OnceLaws
 pub mod StartLaws
 pub mod OverLaws
--- Laws that the needs of the functions on blocks share
-mod BlockStartLaws
+pub mod BlockNeeds
+pub mod IndexNeeds
 -- What the functions' own needs ask
-mod AlikeNeeds
-mod BlockNeeds
 mod FindNeeds
-mod WalkNeeds
 mod PartNeeds
 -- No second answer
-mod OneBlockAnswer
 mod OneAnswer

@@ -17,6 +17,8 @@ use Rattle.house.proofs.Members.{any-in}
 use Rattle.house.proofs.Decisions.{same-is, is-same-T}
 use Rattle.house.proofs.Padding.{key-one}
 use Rattle.lines_fields.specs.Lines.{fieldOf, fieldsOf}
+use Rattle.lines_fields.specs.Marks.{judgedOf}
+use Rattle.lines_fields.proofs.MarkLaws.{judged-nil}
 use Rattle.lines.specs.Records.{Rec, II, IE, isKind, recOf, recs}
 use Rattle.lines_places.specs.Events as events
 use Rattle.lines_places.specs.Events.{eventAt}
@@ -79,7 +81,7 @@ joins-event l p t = both (same (text l 4) (text p 4)) (sameEvent l p) t .1
 
 -- the key of the line at a position
 pub key-at : (f : Text) (p : ℕ) → eventAt f p ≡ eventOf (recAt f p)
-unfolding eventAt recAt eventOf events.eventOf recOf fieldOf fieldIn
+unfolding eventAt recAt eventOf events.eventOf recOf judgedOf fieldOf fieldIn
 key-at f p = refl
 
 -- 2. The block that is open
@@ -87,7 +89,7 @@ key-at f p = refl
 -- a line that is not there is in no block, and no line in a block joins it
 no-fields : length (text noRec 3) ≡ 0
 unfolding noRec recOf fieldIn fieldsOf
-no-fields = refl
+no-fields = ap length judged-nil
 
 pub none-in : T (isInBlock noRec) → ⊥
 none-in b = omega (arith, uli-wide noRec b, no-fields)

@@ -4,10 +4,10 @@ use mathlib.Core.Path.{_≡_, sym, _∙_}
 use mathlib.Core.Bool.{Bool}
 use mathlib.Core.List.{List}
 use Prim.Native.Nat.{ℕ}
-use lib.ListN.{length}
+use lib.ListN.{length, set}
 use Rattle.house.specs.Text.{Text}
 use Rattle.rules_walk.specs.declared.Built.{Built}
-use Rattle.rules_walk.specs.Firsts.{over, builtOf, builtIn, partOf, foundBefore}
+use Rattle.rules_walk.specs.Firsts.{over, soundFour, frontOf, frontIn, partOf, foundBefore}
 
 one : {A : Type 0} {x r q : A} → r ≡ x → q ≡ x → r ≡ q
 one e f = e ∙ sym f
@@ -16,9 +16,15 @@ one e f = e ∙ sym f
 two : {A : Type 0} {x r q : A} {z s t : List ℕ} → (r ≡ x) × (s ≡ z) → (q ≡ x) × (t ≡ z) → (r ≡ q) × (s ≡ t)
 two e g = (one (e .0) (g .0), one (e .1) (g .1))
 
-build : (f : Text) (area : List ℕ) (r q : Built) (s t : List ℕ) → (r ≡ builtOf f (length area)) × (s ≡ builtIn f area) → (q ≡ builtOf f (length area)) × (t ≡ builtIn f area)
+sort-index : (f : Text) (area : List ℕ) (n : ℕ) (r q : Built) (s t : List ℕ) → (r ≡ frontOf f area n) × (s ≡ frontIn f area n) → (q ≡ frontOf f area n) × (t ≡ frontIn f area n)
     → (r ≡ q) × (s ≡ t)
-build f area r q s t = two
+sort-index f area n r q s t = two
+
+four-sound : (t u v w : Text) (r q : Bool) → r ≡ soundFour t u v w → q ≡ soundFour t u v w → r ≡ q
+four-sound t u v w r q = one
+
+put : (out : List ℕ) (n p : ℕ) (s t : List ℕ) → s ≡ set out n p → t ≡ set out n p → s ≡ t
+put out n p s t = one
 
 rule15-named-before : (f : Text) (index : List ℕ) (e : Text) (b : ℕ) (r q : Bool) → r ≡ foundBefore f index e b → q ≡ foundBefore f index e b → r ≡ q
 rule15-named-before f index e b r q = one

@@ -12,7 +12,8 @@ use lib.Seq.{drop-set-lt}
 use Rattle.house.specs.Text.{Text, same}
 use Rattle.house.proofs.Suffix.{drop-here, drop-past, set-past}
 use Rattle.lines_fields.specs.declared.LineAt.{LineAt}
-use Rattle.lines_fields.specs.Lines.{lineOf, fieldOf, LineIs}
+use Rattle.lines_fields.specs.Lines.{lineOf, LineIs}
+use Rattle.lines_fields.specs.Marks.{judgedOf}
 use Rattle.lines_fields.proofs.LineLaws.{lines-past, at-text, at-from, at-in}
 use Rattle.rules_walk.specs.Firsts.{over, isTyped, partOf}
 
@@ -27,7 +28,7 @@ text-there f at q is = at-text f at q is
 pub ruleset for-line-text = (needs, at-from, at-in, text-none, text-there)
 
 -- is_typed
-pub typed-is : (f : Text) (letter p at : ℕ) (g : Text) (r : Bool) → at ≡ p → g ≡ fieldOf (lineOf (drop at f) .text) 4 → r ≡ same g (letter ∷ []) → r ≡ isTyped f letter p
+pub typed-is : (f : Text) (letter p at : ℕ) (g : Text) (r : Bool) → at ≡ p → g ≡ judgedOf (lineOf (drop at f) .text) 4 → r ≡ same g (letter ∷ []) → r ≡ isTyped f letter p
 unfolding isTyped
 typed-is f letter p at g r i a c = c ∙ rw (a, i)
 

@@ -17,6 +17,8 @@ use Rattle.lines.specs.Shape.{isOne, follows, shapeOf}
 use Rattle.lines.specs.Inside.{RightFrom, RightLine}
 use Rattle.lines_fields.proofs.LineLaws.{line-le, lines-step, ended-is}
 use Rattle.lines.proofs.ShapeLaws.{right-line, right-start}
+use Rattle.lines_fields.specs.Marks.{judgedText}
+use Rattle.lines_fields.proofs.MarkLaws.{judged-within}
 use Rattle.rules_definitions.specs.Forms.{fieldIn, text}
 use Rattle.rules_definitions.specs.Contexts.{Context, contextsFrom, contextsOf, contextsIn}
 use Rattle.rules_definitions.specs.Blocks.{isInBlock, begins}
@@ -75,10 +77,11 @@ unfolding recOf fieldIn
 block-text t b n =
     let fs = fieldsOf t in
     let z : length (getD fs 0 []) ≡ 2 = type-size t (λ e. let q : recordOf t ≡ 4 = is-II (recOf t) b in omega arith) in
-    let u : length (getD fs 2 []) ≡ 9 = uli-wide (recOf t) b in
-    let a : 1 ≤ length (getD fs 3 []) = given (text (recOf t) 4) (named (recOf t) b .type-given) in
-    let d : length (getD fs 5 []) ≡ 8 = date-wide (recOf t) b in
-    let c : 1 ≤ length (getD fs 7 []) = code-wide (recOf t) b .0 in
+    let w : (x : Text) (k : ℕ) → k ≤ length (judgedText x) → k ≤ length x = λ x k h. omega (arith, judged-within x) in
+    let u : 9 ≤ length (getD fs 2 []) = w (getD fs 2 []) 9 (omega (arith, uli-wide (recOf t) b)) in
+    let a : 1 ≤ length (getD fs 3 []) = w (getD fs 3 []) 1 (given (text (recOf t) 4) (named (recOf t) b .type-given)) in
+    let d : 8 ≤ length (getD fs 5 []) = w (getD fs 5 []) 8 (omega (arith, date-wide (recOf t) b)) in
+    let c : 1 ≤ length (getD fs 7 []) = w (getD fs 7 []) 1 (code-wide (recOf t) b .0) in
     let s0 : suc (length (getD fs 0 [])) + sizes (drop 1 fs) ≤ sizes fs = sizes-first fs 0 (omega arith) in
     let s1 : suc (length (getD fs 1 [])) + sizes (drop 2 fs) ≤ sizes (drop 1 fs) = sizes-first fs 1 (omega arith) in
     let s2 : suc (length (getD fs 2 [])) + sizes (drop 3 fs) ≤ sizes (drop 2 fs) = sizes-first fs 2 (omega arith) in

@@ -9,6 +9,7 @@ use lib.ListN.{length, drop, length-map}
 use Rattle.house.specs.Text.{Text, any, those, same}
 use Rattle.house.specs.Members.{Distinct}
 use Rattle.lines_fields.specs.Lines.{fieldOf, linesLen}
+use Rattle.lines_fields.specs.Marks.{judgedOf}
 use Rattle.lines.specs.Records.{Rec, recOf, recs}
 use Rattle.lines_places.specs.Events.{eventAt, eventsAt, ascends}
 use Rattle.lines_places.specs.Sorted.{place}
@@ -30,7 +31,7 @@ any-map g q [] = refl
 any-map g q (p ∷ ps) = ap (λ (b : Bool). q (g p) || b) (any-map g q ps)
 
 typed-at : (f : Text) (type p : ℕ) → isTyped f type p ≡ same (text (recAt f p) 4) (type ∷ [])
-unfolding isTyped recAt recOf fieldOf fieldIn
+unfolding isTyped recAt recOf judgedOf fieldOf fieldIn
 typed-at f type p = refl
 
 module _ (f : Text) (type : ℕ) where

@@ -2,22 +2,29 @@
 -- Assumes nothing.
 use Prim.Native.Nat.{ℕ}
 use mathlib.Core.Bool.{Bool, true, false, cond, _&&_}
-use mathlib.Core.List.{List, [], _∷_, map}
-use lib.ListN.{length, getD, drop}
+use mathlib.Core.List.{List, [], _∷_, _++_, map}
+use lib.ListN.{length, getD, take, drop}
 use lib.Dec.{ltb, leb}
 use Rattle.house.specs.declared.Order.{Order}
 use Rattle.house.specs.declared.Order.the-variants.{Less, Same, More}
 use Rattle.house.specs.Text.{Text, any, those, same, orderOf}
 use Rattle.house.specs.Search.{byOrder, binarySearch}
-use Rattle.lines_fields.specs.Lines.{lineOf, fieldOf, linesLen}
+use Rattle.dates.specs.Dates.{isDate}
+use Rattle.lines_fields.specs.Lines.{lineOf, linesLen}
+use Rattle.lines_fields.specs.Marks.{judgedOf}
 use Rattle.lines.specs.Records.{Rec}
 use Rattle.lines_places.specs.Events.{eventAt, eventsAt, ascends}
-use Rattle.lines_places.specs.Sorted.{place, placesMost}
+use Rattle.lines_places.specs.Sorted.{place, placesMost, sortedAt, sortedApart}
 use Rattle.ledger.specs.Ledger.{Event}
+use Rattle.rules_definitions.specs.Forms.{isUli, isType, isCode}
 use Rattle.rules_definitions.specs.Contexts.{Context, contextsIn}
 use Rattle.rules_definitions.specs.Blocks.{begins}
 use Rattle.rules_walk.specs.declared.Built.{Built}
 use Rattle.rules_walk.specs.declared.Built.the-variants.{Blocks, TooMany}
+
+-- these texts of fields 3, 4, 6 and 8 of an II are sound
+unfoldable pub soundFour : Text → Text → Text → Text → Bool
+soundFour uli kind date vaccine = isUli uli && (isType kind && (isDate date && isCode vaccine))
 
 -- where the line starts that has these lines before it
 abbrev pub startAfter : Text → List Rec → ℕ
@@ -68,11 +75,23 @@ builtOf f n = cond (canBuild f n) (Blocks (length (firstsOf f)) (ascends (events
 unfoldable pub builtIn : Text → List ℕ → List ℕ
 builtIn f area = cond (canBuild f (length area)) (over (indexOf f) area) (cond (leb (length f) fileMost) (over (firstsOf f) area) area)
 
+-- Putting the first n places of an area in order
+
+-- there are so many, and not too many to be sorted
+unfoldable pub canSortFront : List ℕ → ℕ → Bool
+canSortFront area n = leb n placesMost && leb n (length area)
+
+unfoldable pub frontOf : Text → List ℕ → ℕ → Built
+frontOf f area n = cond (canSortFront area n) (Blocks n (sortedApart f (take n area))) TooMany
+
+unfoldable pub frontIn : Text → List ℕ → ℕ → List ℕ
+frontIn f area n = cond (canSortFront area n) (sortedAt f (take n area) ++ drop n area) area
+
 -- Submission types
 
 -- the line at position p is of this type, a byte
 unfoldable pub isTyped : Text → ℕ → ℕ → Bool
-isTyped f type p = same (fieldOf (lineOf (drop p f) .text) 4) (type ∷ [])
+isTyped f type p = same (judgedOf (lineOf (drop p f) .text) 4) (type ∷ [])
 
 -- those of these positions whose lines are of this type
 unfoldable pub partOf : Text → ℕ → List ℕ → List ℕ

@@ -11,7 +11,6 @@ use Rattle.lines_fields.specs.Lines.{lineOf, lineLen}
 use Rattle.lines.specs.Records.{Rec, IE, isKind, recOf, recs}
 use Rattle.rules_definitions.specs.Contexts.{contextsFrom}
 use Rattle.rules_definitions.specs.Blocks.{isInBlock, joins, nearestOf, openAfter, begins}
-use Rattle.rules_walk.specs.declared.Turn.{Turn}
 use Rattle.rules_walk.specs.Firsts.{startAfter, isFirst, startOf, firstsOf}
 
 -- the line that starts at a position
@@ -35,19 +34,3 @@ firstsFrom f before ls = map (startOf f) (those isFirst (contextsFrom (suc (leng
 abbrev pub firstsIn : Text → List Rec → List ℕ
 firstsIn f [] = []
 firstsIn f (l ∷ before) = cond (begins l before) (startAfter f before ∷ firstsIn f before) (firstsIn f before)
-
--- a turn of the walk, at the line at position at, where the nearest II of the block that is open starts at last, the file's end being none
-unfoldable pub turnOf : Text → ℕ → ℕ → Turn
-turnOf f at last =
-    record {
-      first = isInBlock (recAt f at) && not (joins (recAt f at) (recAt f last));
-      last = cond (isInBlock (recAt f at)) at (cond (isKind IE (recAt f at)) last (length f));
-      next = nextLine f at;
-    }
-
--- what the walk knows once it has come to position at: the blocks that it has passed begin at these positions
-pub record Walk (f : Text) (at last : ℕ) (done : List ℕ) : Type 0 where
-  pub before : List Rec
-  pub start : at ≡ startAfter f before
-  pub head : recAt f last ≡ nearestOf (openAfter before)
-  pub found : firstsOf f ≡ done ++ firstsFrom f before (recs (drop at f))

@@ -1,5 +1,4 @@
 -- The index of blocks, as the contracts cite it, and what the crate works by.
 -- Assumes nothing.
-pub mod From
 pub mod Firsts
 pub mod Inside

@@ -2,30 +2,23 @@
 // submission type.
 mod blocks;
 mod find;
+mod index;
 mod line;
 mod parts;
-mod walk;
 
-pub use blocks::in_block;
-pub use blocks::joins;
+pub use blocks::four_sound;
 pub use find::rule15_named_before;
+pub use index::sort_index;
+pub use line::put;
 pub use parts::count_of;
 pub use parts::keep;
 pub use parts::part_of;
-pub use walk::build;
 
 // The longest file whose index is built.
 pub const MOST_BYTES: usize = 5000000;
 
-// An index is built, of so many blocks, and whether no two of them name one event; or there are too many.
+// An index is in order, of so many blocks, and whether no two of them name one event; or there are too many.
 pub enum Built {
     Blocks { blocks: usize, distinct: bool },
     TooMany,
-}
-
-// A turn of the walk: whether the line begins a block, where the nearest II of the block that is then open starts, where the next line starts.
-struct Turn {
-    first: bool,
-    last: usize,
-    next: usize,
 }

@@ -9,7 +9,7 @@ ghost use Rattle.rules_walk.specs.Firsts.{over, isTyped, partOf};
 fn is_typed(file: &[u8], p: u32, letter: u8) -> bool
     ensures { λ r. ⌜ r ≡ isTyped (now (file .entry)) letter p ⌝ }
 {
-    let field = lines_fields::field_at(file, wide(p), 4);
+    let field = lines_fields::judged_at(file, wide(p), 4);
     let one = [letter];
     house::same(field, &one)
 }

@@ -19,7 +19,7 @@ use Rattle.ledger.proofs.FoundLaws.{those-le}
 use Rattle.rules.specs.Contexts.{Context, contextsFrom, contextsOf, contextsIn}
 use Rattle.rules.specs.Blocks.{beginsBlock, eventOf, eventsOf, adds, changes, deletes}
 use Rattle.rules.specs.Seen.{Setting, Seen, seenAt}
-use Rattle.rules.specs.Rules.{Numbered, rules, rulesIn, rulesOf, brokenBy, brokenAt}
+use Rattle.rules.specs.Rules.{Numbered, rules, rulesIn, rulesOf, isPlaced, rulesAt, brokenBy, brokenAt}
 use Rattle.rules.specs.Findings.{found, fieldsFindings, lineFindings, findingsOf}
 use Rattle.rules.proofs.PassLaws.{by-lines, recs-first}
 use Rattle.answers.specs.declared.Answer.{Answer}
@@ -132,8 +132,8 @@ module _ (s : Setting) where
   eighteen = refl
 
   at-most-18 : (v : Seen) (f : ℕ) → length (brokenAt s v f) ≤ 18
-  unfolding brokenAt
-  at-most-18 v f = omega (arith, broken-few v f (rulesOf s), eighteen)
+  unfolding brokenAt rulesAt
+  at-most-18 v f = omega (arith, broken-few v f (rulesAt s (v .line .kind) f), those-le (isPlaced (v .line .kind) f) (rulesOf s), eighteen)
 
   fields-findings : (n : ℕ) (v : Seen) (f m : ℕ) → length (fieldsFindings s n v f m) ≤ 18 * m
   unfolding fieldsFindings

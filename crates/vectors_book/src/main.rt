@@ -112,7 +112,6 @@ fn say_standing(book: &[u8], sections: Sections, kind: u8, a: &[u8], b: &[u8], d
     match f {
         Found::At(place) => {
             vectors_stream::say(place.at as u64);
-            vectors_stream::say_yes(book::in_force(book, place, day));
         }
         Found::Absent => {
             io::write_all(1, b"absent ");

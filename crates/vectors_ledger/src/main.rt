@@ -66,7 +66,7 @@ fn one(lent: &[u8], live: usize, asked: &[u8]) {
         if lent.len() == 114 {
             say_live(lent, live, &asked[f0..f1], &asked[a0..a1]);
             say_sorted(&asked[f0..f1], &asked[a0..a1]);
-            say_updated(lent, &asked[f0..f1], &asked[a0..a1], &asked[d0..d1]);
+            say_updated(lent, live, &asked[f0..f1], &asked[a0..a1], &asked[d0..d1]);
         }
     }
 }
@@ -125,29 +125,38 @@ fn three_slots(lent: &[u8]) -> [u8; 114] {
     out
 }
 
-// Whether the places are fit for an update, and the ledger after it.
-fn say_updated(lent: &[u8], file: &[u8], adds: &[u8], deletes: &[u8]) {
+// The ledger after an update by the first places.
+fn say_updated(lent: &[u8], live: usize, file: &[u8], adds: &[u8], deletes: &[u8]) {
     let mut ledger = three_slots(lent);
     let plus = four(adds);
     let minus = four(deletes);
-    vectors_stream::say_yes(fit(
+    update(
         &mut ledger,
+        live,
         file,
         &plus,
         adds.len() / 4,
         &minus,
         deletes.len() / 4,
-    ));
+    );
     vectors_stream::say_text(&ledger);
 }
 
-fn fit(ledger: &mut [u8], file: &[u8], adds: &[u32], i: usize, deletes: &[u32], j: usize) -> bool {
+fn update(
+    ledger: &mut [u8],
+    live: usize,
+    file: &[u8],
+    adds: &[u32],
+    i: usize,
+    deletes: &[u32],
+    j: usize,
+) {
     if adds.len() < i {
-        return false;
+        return;
     }
     if deletes.len() < j {
-        return false;
+        return;
     }
     let from = 0;
-    ledger::update(ledger, file, &adds[from..i], &deletes[from..j])
+    ledger::update(ledger, live, file, &adds[from..i], &deletes[from..j]);
 }

@@ -2,17 +2,21 @@
 //! shared with the product: what both say of a case, both read in the document.
 
 pub mod book;
+mod code;
 pub mod date;
+mod findings;
 mod forms;
 pub mod ledger;
 mod rules;
 pub mod shape;
+mod tables;
+mod words;
 
 use book::Book;
+pub use findings::Finding;
 use ledger::Lent;
-pub use rules::Finding;
-use rules::Judged;
-use shape::Fault;
+use rules::{Judge, Judged};
+use shape::{Fault, Records};
 
 pub const ACCEPTED: u32 = 0;
 pub const DATE: u32 = 1;
@@ -67,9 +71,9 @@ impl Answer {
 
     fn of_blocks(judged: &Judged) -> Answer {
         Answer {
-            added: judged.added.len() as u32,
+            added: judged.added,
             changed: judged.changed,
-            deleted: judged.deleted.len() as u32,
+            deleted: judged.deleted,
             not_immunized: judged.not_immunized,
             ..Answer::of(ACCEPTED)
         }
@@ -99,16 +103,20 @@ pub fn check(
     ledger: &mut [u8],
     findings: &mut [u8],
 ) -> Answer {
-    let judged = match judge(today, file, book, ledger) {
-        Ok(judged) => judged,
+    let (judged, lent) = match judge(today, file, book, ledger) {
+        Ok(said) => said,
         Err(refusal) => return refusal,
     };
     if !judged.findings.is_empty() {
         write_findings(&judged.findings, findings);
         return Answer::of_findings(&judged.findings);
     }
-    if ledger::apply(ledger, &judged.added, &judged.deleted).is_err() {
+    let live = lent.live.len();
+    if live + judged.added as usize - judged.deleted as usize > lent.slots {
         return Answer::of(FULL);
+    }
+    if !judged.edits.is_empty() {
+        ledger::apply(ledger, live, &judged.edits);
     }
     Answer::of_blocks(&judged)
 }
@@ -116,11 +124,11 @@ pub fn check(
 /// Every finding of a case, in the order of the list; none where an answer
 /// below FINDINGS is given.
 pub fn all_findings(today: u32, file: &[u8], book: &[u8], ledger: &[u8]) -> Vec<Finding> {
-    judge(today, file, book, ledger).map_or_else(|_| Vec::new(), |judged| judged.findings)
+    judge(today, file, book, ledger).map_or_else(|_| Vec::new(), |(judged, _)| judged.findings)
 }
 
-/// The answers 1 to 5, or what the rules say.
-fn judge(today: u32, file: &[u8], book: &[u8], ledger: &[u8]) -> Result<Judged, Answer> {
+/// The answers 1 to 5, or what the rules say, and the ledger as lent.
+fn judge(today: u32, file: &[u8], book: &[u8], ledger: &[u8]) -> Result<(Judged, Lent), Answer> {
     if !date::is_date(today) {
         return Err(Answer::of(DATE));
     }
@@ -129,8 +137,12 @@ fn judge(today: u32, file: &[u8], book: &[u8], ledger: &[u8]) -> Result<Judged, 
     }
     let book = Book::read(book).ok_or(Answer::of(BOOK))?;
     let lent = Lent::read(ledger).ok_or(Answer::of(LEDGER))?;
-    let records = shape::read(file).map_err(Answer::of_fault)?;
-    Ok(rules::judge(today, &records, &book, &lent))
+    let mut records = Records::of(file);
+    let mut judge = Judge::new(today, &book);
+    while let Some(record) = records.read_next().map_err(Answer::of_fault)? {
+        judge.record(&record);
+    }
+    Ok((judge.finish(&lent), lent))
 }
 
 /// The longest run of whole findings from the start of the list that fits.

@@ -133,7 +133,7 @@ pub fn triples(case: &Case) -> Vec<Triple> {
 fn kinds(file: &[u8]) -> Vec<Kind> {
     let lines = file.split_inclusive(|&byte| byte == b'\n');
     lines
-        .map(|line| Kind::of(&line[..2]).expect("a file of good shape"))
+        .map(|line| Kind::of_line(line).expect("a file of good shape"))
         .collect()
 }
 

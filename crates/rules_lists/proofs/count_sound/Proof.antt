@@ -11,4 +11,6 @@ count-sound-spec =
     (λ c. search for-count-sound)
     (λ c. search for-count-sound)
     (λ c. search for-count-sound)
+    (λ c. search for-count-sound)
+    (λ c. search for-count-sound)
     (λ c. search for-count-sound))

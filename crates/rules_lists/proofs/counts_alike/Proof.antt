@@ -12,6 +12,4 @@ counts-alike-spec =
     (λ c. search for-counts-alike)
     (λ c. search for-counts-alike)
     (λ c. search for-counts-alike)
-    (λ c. search for-counts-alike)
-    (λ c. search for-counts-alike)
     (λ c. search for-counts-alike))

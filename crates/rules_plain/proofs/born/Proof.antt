@@ -12,5 +12,4 @@ born-spec =
     (λ c. search for-born)
     (λ c. search for-born)
     (λ c. search for-born)
-    (λ c. search for-born)
     (λ c. search for-born))

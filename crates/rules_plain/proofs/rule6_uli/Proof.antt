@@ -12,5 +12,4 @@ rule6-uli-spec =
     (λ c. search for-rule6-uli)
     (λ c. search for-rule6-uli)
     (λ c. search for-rule6-uli)
-    (λ c. search for-rule6-uli)
     (λ c. search for-rule6-uli))

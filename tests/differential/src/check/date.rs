@@ -1,6 +1,8 @@
 //! A date is eight digits YYYYMMDD, a real Gregorian day in the years 1800 to
 //! 2199. Dates are held as the number of that form, which orders them.
 
+use super::words;
+
 pub const FIRST_YEAR: u32 = 1800;
 pub const LAST_YEAR: u32 = 2199;
 
@@ -39,9 +41,5 @@ pub fn end_of(text: &[u8]) -> Option<u32> {
 
 /// The number that eight digits write.
 fn number_of(text: &[u8]) -> Option<u32> {
-    let digits = text.len() == 8 && text.iter().all(u8::is_ascii_digit);
-    digits.then(|| {
-        text.iter()
-            .fold(0, |number, digit| 10 * number + u32::from(digit - b'0'))
-    })
+    words::eight_digits(text.try_into().ok()?)
 }

@@ -1,7 +1,8 @@
 //! The ledger: slots of 38 bytes, the live ones first and ascending strictly,
 //! free ones after them.
 
-use super::{book, date};
+use super::code::Code;
+use super::{date, forms, words};
 
 pub const SLOT_WIDTH: usize = 38;
 pub const SLOTS_MOST: usize = 100_000;
@@ -19,110 +20,105 @@ pub fn event(uli: &[u8], date: &[u8], vaccine: &[u8]) -> Event {
     event
 }
 
-/// The live events of the ledger as lent.
-pub struct Lent<'a> {
-    live: &'a [u8],
+/// More than any date.
+const DATES: u64 = 100_000_000;
+
+/// What names an event, in numbers, which order events as their bytes do.
+#[derive(Clone, Copy, Debug, PartialEq, Eq, PartialOrd, Ord)]
+pub struct Name {
+    /// The ULI's nine digits and the date's eight, as one number.
+    pub uli_and_date: u64,
+    pub vaccine: Code,
 }
 
-impl<'a> Lent<'a> {
+impl Name {
+    pub fn new(uli: u32, date: u32, vaccine: Code) -> Name {
+        Name {
+            uli_and_date: u64::from(uli) * DATES + u64::from(date),
+            vaccine,
+        }
+    }
+
+    fn of(event: &Event) -> Option<Name> {
+        let uli = forms::uli(&event[..9])?;
+        let date = date::of_text(&event[9..17])?;
+        let vaccine = event.last_chunk().and_then(Code::of_padded)?;
+        Some(Name::new(uli, date, vaccine))
+    }
+
+    fn event(&self) -> Event {
+        let (uli, date) = (self.uli_and_date / DATES, self.uli_and_date % DATES);
+        let mut event = [0; 37];
+        event[..8].copy_from_slice(&words::digits_of((uli / 10) as u32));
+        event[8] = b'0' + (uli % 10) as u8;
+        event[9..17].copy_from_slice(&words::digits_of(date as u32));
+        event[17..].copy_from_slice(&self.vaccine.bytes());
+        event
+    }
+}
+
+/// The ledger as lent: the names of its live events, ascending.
+pub struct Lent {
+    pub live: Vec<Name>,
+    pub slots: usize,
+}
+
+impl Lent {
     /// The ledger that the bytes are, unless malformed.
-    pub fn read(bytes: &'a [u8]) -> Option<Lent<'a>> {
-        if bytes.len() % SLOT_WIDTH != 0 || bytes.len() > SLOTS_MOST * SLOT_WIDTH {
+    pub fn read(bytes: &[u8]) -> Option<Lent> {
+        let (slots, rest) = bytes.as_chunks::<SLOT_WIDTH>();
+        if !rest.is_empty() || slots.len() > SLOTS_MOST {
             return None;
         }
-        let (live, free) = bytes.split_at(live_width(bytes));
-        (are_live(live) && are_free(free)).then_some(Lent { live })
-    }
-
-    pub fn is_live(&self, event: &Event) -> bool {
-        let (mut low, mut high) = (0, self.live.len() / SLOT_WIDTH);
-        while low < high {
-            let middle = (low + high) / 2;
-            match event_at(self.live, middle).cmp(event) {
-                std::cmp::Ordering::Less => low = middle + 1,
-                std::cmp::Ordering::Greater => high = middle,
-                std::cmp::Ordering::Equal => return true,
+        let count = slots.partition_point(|slot| slot[0] == KIND_LIVE);
+        let mut live: Vec<Name> = Vec::with_capacity(count);
+        for slot in &slots[..count] {
+            let name = Name::of(live_event(slot)?)?;
+            if live.last().is_some_and(|before| *before >= name) {
+                return None;
             }
+            live.push(name);
         }
-        false
+        let are_free = |bytes: &[u8]| bytes.iter().fold(0, |any, &byte| any | byte) == 0;
+        are_free(slots[count..].as_flattened()).then_some(Lent {
+            live,
+            slots: slots.len(),
+        })
     }
 }
 
-fn event_at(slots: &[u8], slot: usize) -> &[u8] {
-    &slots[slot * SLOT_WIDTH + 1..(slot + 1) * SLOT_WIDTH]
+/// The event of a slot, if it is of kind 1.
+fn live_event(slot: &[u8; SLOT_WIDTH]) -> Option<&Event> {
+    slot.last_chunk().filter(|_| slot[0] == KIND_LIVE)
 }
 
-/// The bytes up to the first slot that is not of kind 1.
-fn live_width(bytes: &[u8]) -> usize {
-    bytes
-        .chunks_exact(SLOT_WIDTH)
-        .take_while(|slot| slot[0] == KIND_LIVE)
-        .count()
-        * SLOT_WIDTH
+/// A change of the ledger at a slot that was live, or at the one after these.
+#[derive(Clone, Copy)]
+pub enum Edit {
+    /// The event goes in before the slot.
+    Add(usize, Name),
+    /// The slot's event goes out.
+    Delete(usize),
 }
 
-fn are_live(slots: &[u8]) -> bool {
-    let mut before: &[u8] = &[];
-    slots.chunks_exact(SLOT_WIDTH).all(|slot| {
-        let ascends = before < &slot[1..];
-        before = &slot[1..];
-        ascends && is_event(before)
-    })
-}
-
-fn is_event(bytes: &[u8]) -> bool {
-    bytes[..9].iter().all(u8::is_ascii_digit)
-        && date::of_text(&bytes[9..17]).is_some()
-        && book::is_padded_code(&bytes[17..])
-}
-
-fn are_free(slots: &[u8]) -> bool {
-    slots.iter().all(|&byte| byte == KIND_FREE)
-}
-
-/// The ledger had no room.
-pub struct Full;
-
-/// The events live before, plus the added, less the deleted. The bytes stay as
-/// they are if live + added - deleted exceeds the slots.
-pub fn apply(ledger: &mut [u8], added: &[Event], deleted: &[Event]) -> Result<(), Full> {
-    let live = live_width(ledger);
-    let after = live / SLOT_WIDTH + added.len() - deleted.len();
-    if after > ledger.len() / SLOT_WIDTH {
-        return Err(Full);
-    }
-    if !added.is_empty() || !deleted.is_empty() {
-        let mut bytes = merged(&ledger[..live], sorted(added), sorted(deleted));
-        bytes.resize(ledger.len(), KIND_FREE);
-        ledger.copy_from_slice(&bytes);
-    }
-    Ok(())
-}
-
-fn sorted(events: &[Event]) -> Vec<Event> {
-    let mut events = events.to_vec();
-    events.sort_unstable();
-    events
-}
-
-/// The slots of the live events and the added ones in order, without the
-/// deleted. All deleted events are live, no added one is.
-fn merged(live: &[u8], added: Vec<Event>, deleted: Vec<Event>) -> Vec<u8> {
-    let mut slots = Vec::with_capacity(live.len() + added.len() * SLOT_WIDTH);
-    let (mut added, mut deleted) = (added.into_iter().peekable(), deleted.into_iter().peekable());
-    for slot in live.chunks_exact(SLOT_WIDTH) {
-        while let Some(event) = added.next_if(|event| event[..] < slot[1..]) {
-            push(&mut slots, &event);
-        }
-        if deleted.next_if(|event| event[..] == slot[1..]).is_none() {
-            slots.extend_from_slice(slot);
+/// The ledger after these edits, which ascend. It has the slots for them.
+pub fn apply(ledger: &mut [u8], live: usize, edits: &[Edit]) {
+    let mut bytes = Vec::with_capacity(ledger.len());
+    let mut kept = 0;
+    for edit in edits {
+        let (Edit::Add(slot, _) | Edit::Delete(slot)) = *edit;
+        bytes.extend_from_slice(&ledger[kept * SLOT_WIDTH..slot * SLOT_WIDTH]);
+        kept = match edit {
+            Edit::Add(..) => slot,
+            Edit::Delete(_) => slot + 1,
+        };
+        if let Edit::Add(_, name) = edit {
+            bytes.push(KIND_LIVE);
+            bytes.extend_from_slice(&name.event());
         }
     }
-    added.for_each(|event| push(&mut slots, &event));
-    slots
-}
-
-fn push(slots: &mut Vec<u8>, event: &Event) {
-    slots.push(KIND_LIVE);
-    slots.extend_from_slice(event);
+    bytes.extend_from_slice(&ledger[kept * SLOT_WIDTH..live * SLOT_WIDTH]);
+    let (after, free) = ledger.split_at_mut(bytes.len());
+    after.copy_from_slice(&bytes);
+    free.fill(KIND_FREE);
 }

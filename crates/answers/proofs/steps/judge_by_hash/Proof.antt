@@ -1,6 +1,6 @@
 -- `answers::steps::judge_by_hash` meets its contract.
 -- Assumes nothing.
-use Rattle.answers.proofs.StepNeeds.{for-judge-by-hash}
+use Rattle.answers.proofs.BufferNeeds.{for-judge-by-hash}
 use Rattle.answers.proofs.steps.judge_by_hash.Statement.{statement}
 use Rattle.answers.proofs.steps.judge_by_hash.Tie as tie
 

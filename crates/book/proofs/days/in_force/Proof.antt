@@ -1,6 +1,6 @@
 -- `book::days::in_force` meets its contract.
 -- Assumes nothing.
-use Rattle.book.proofs.ForceLaws.{for-in-force}
+use Rattle.book.proofs.DayLaws.{for-in-force}
 use Rattle.book.proofs.days.in_force.Statement.{statement}
 use Rattle.book.proofs.days.in_force.Tie as tie
 
@@ -8,8 +8,6 @@ pub in-force-spec : {M : Type 1} → statement M
 in-force-spec =
     tie.close
     (tie.spec
-    (λ c. search for-in-force)
-    (λ c. search for-in-force)
     (λ c. search for-in-force)
     (λ c. search for-in-force)
     (λ c. search for-in-force)

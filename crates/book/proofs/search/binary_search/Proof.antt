@@ -9,10 +9,10 @@ use Rattle.book.proofs.search.binary_search.Statement.{statement}
 use Rattle.book.proofs.search.binary_search.Tie as tie
 
 abbrev Inv-loop : tie.InvT-loop
-Inv-loop book kind a b from w n lo₀ hi₀ lo hi = (hi ≤ n) × (n * w .entry ≤ length book - from) × Seeks book kind from n (codePadded kind a b) lo hi
+Inv-loop book w kind a b n lo₀ hi₀ lo hi = (hi ≤ n) × (n * w .entry ≤ length book - w .from) × Seeks book kind (w .from) n (codePadded kind a b) lo hi
 
 abbrev μ-loop : tie.MeasureT-loop
-μ-loop book kind a b from w n lo₀ hi₀ lo hi = hi - lo
+μ-loop book w kind a b n lo₀ hi₀ lo hi = hi - lo
 
 pub binary-search-spec : {M : Type 1} → statement M
 binary-search-spec =
@@ -32,8 +32,6 @@ binary-search-spec =
     (λ c. search for-binary-search)
     (λ c. search for-binary-search)
     (λ c. search for-binary-search)
-    (λ c. search for-binary-search)
-    (λ c. search (for-binary-search, c .before .before .before .before .loop .inv .2))
     (λ c. search for-binary-search)
     (λ c. search for-binary-search)
     (λ c. search for-binary-search))

@@ -9,7 +9,4 @@ find-spec =
     tie.close
     (tie.spec
     (λ c. search for-find)
-    (λ c. search for-find)
-    (λ c. search for-find)
-    (λ c. search for-find)
     (λ c. search for-find))

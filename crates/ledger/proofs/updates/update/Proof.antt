@@ -13,4 +13,5 @@ update-spec =
     (λ c. search for-update)
     (λ c. search for-update)
     (λ c. search for-update)
+    (λ c. search for-update)
     (λ c. search for-update))

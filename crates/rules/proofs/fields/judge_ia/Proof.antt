@@ -19,4 +19,6 @@ judge-ia-spec =
     (λ c. search for-judge-ia)
     (λ c. search for-judge-ia)
     (λ c. search for-judge-ia)
+    (λ c. search for-judge-ia)
+    (λ c. search for-judge-ia)
     (λ c. search for-judge-ia))

@@ -18,4 +18,8 @@ judge-ie-spec =
     (λ c. search for-judge-ie)
     (λ c. search for-judge-ie)
     (λ c. search for-judge-ie)
+    (λ c. search for-judge-ie)
+    (λ c. search for-judge-ie)
+    (λ c. search for-judge-ie)
+    (λ c. search for-judge-ie)
     (λ c. search for-judge-ie))

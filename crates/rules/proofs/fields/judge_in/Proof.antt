@@ -22,4 +22,6 @@ judge-in-spec =
     (λ c. search for-judge-in)
     (λ c. search for-judge-in)
     (λ c. search for-judge-in)
+    (λ c. search for-judge-in)
+    (λ c. search for-judge-in)
     (λ c. search for-judge-in))

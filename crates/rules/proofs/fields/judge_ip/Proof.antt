@@ -16,4 +16,5 @@ judge-ip-spec =
     (λ c. search for-judge-ip)
     (λ c. search for-judge-ip)
     (λ c. search for-judge-ip)
+    (λ c. search for-judge-ip)
     (λ c. search for-judge-ip))

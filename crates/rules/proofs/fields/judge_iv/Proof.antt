@@ -13,4 +13,5 @@ judge-iv-spec =
     (λ c. search for-judge-iv)
     (λ c. search for-judge-iv)
     (λ c. search for-judge-iv)
+    (λ c. search for-judge-iv)
     (λ c. search for-judge-iv))

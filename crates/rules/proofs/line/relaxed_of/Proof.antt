@@ -10,4 +10,8 @@ relaxed-of-spec =
     (tie.spec
     (λ c. search for-relaxed-of)
     (λ c. search for-relaxed-of)
+    (λ c. search for-relaxed-of)
+    (λ c. search for-relaxed-of)
+    (λ c. search for-relaxed-of)
+    (λ c. search for-relaxed-of)
     (λ c. search for-relaxed-of))

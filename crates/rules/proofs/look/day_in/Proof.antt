@@ -1,6 +1,6 @@
 -- `rules::look::day_in` meets its contract.
 -- Assumes nothing.
-use Rattle.rules.proofs.PassNeeds.{for-day-in}
+use Rattle.rules.proofs.LookNeeds.{for-line}
 use Rattle.rules.proofs.look.day_in.Statement.{statement}
 use Rattle.rules.proofs.look.day_in.Tie as tie
 
@@ -8,7 +8,6 @@ pub day-in-spec : {M : Type 1} → statement M
 day-in-spec =
     tie.close
     (tie.spec
-    (λ c. search for-day-in)
-    (λ c. search for-day-in)
-    (λ c. search for-day-in)
-    (λ c. search for-day-in))
+    (λ c. search for-line)
+    (λ c. search for-line)
+    (λ c. search for-line))

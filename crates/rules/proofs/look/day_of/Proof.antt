@@ -1,6 +1,6 @@
 -- `rules::look::day_of` meets its contract.
 -- Assumes nothing.
-use Rattle.rules.proofs.PassNeeds.{for-day-of}
+use Rattle.rules.proofs.LookNeeds.{for-day-of}
 use Rattle.rules.proofs.look.day_of.Statement.{statement}
 use Rattle.rules.proofs.look.day_of.Tie as tie
 

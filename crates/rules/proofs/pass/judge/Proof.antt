@@ -8,17 +8,9 @@ pub judge-spec : {M : Type 1} → statement M
 judge-spec =
     tie.close
     (tie.spec
-    (λ c. search for-judge)
-    (λ c. search for-judge)
-    (λ c. search for-judge)
-    (λ c. search for-judge)
-    (λ c. search for-judge)
-    (λ c. search for-judge)
-    (λ c. search for-judge)
-    (λ c. search for-judge)
-    (λ c. search for-judge)
-    (λ c. search for-judge)
     (λ c. (search for-judge, (search for-judge, search for-judge)))
     (λ c. search for-judge)
     (λ c. search for-judge)
-    (λ c. (search for-judge, (search for-judge, search for-judge))))
+    (λ c. search for-judge)
+    (λ c. search for-judge)
+    (λ c. search for-judge))

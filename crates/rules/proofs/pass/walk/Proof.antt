@@ -1,19 +1,20 @@
 -- `rules::pass::walk` meets its contract.
 -- Assumes nothing.
-use Rattle.rules.proofs.TurnNeeds.{for-walk}
+use Rattle.rules.proofs.GatherNeeds.{for-walk}
+use mathlib.Core.Path.{_≡_}
 use Prim.Native.Nat.{_-_}
 use lib.ListN.{length}
 use Rattle.ledger.specs.Ledger.{foundIn}
 use Rattle.rules.specs.Look.{settingBy}
-use Rattle.rules.proofs.TurnNeeds.{Walking}
+use Rattle.rules.proofs.GatherNeeds.{Walking}
 use Rattle.rules.proofs.pass.walk.Statement.{statement}
 use Rattle.rules.proofs.pass.walk.Tie as tie
 
 abbrev Inv-loop : tie.InvT-loop
-Inv-loop file index ledger live book q today area₀ st₀ at₀ findings₀ area st at findings = Walking (settingBy today book q (foundIn ledger live)) file area₀ at st findings area
+Inv-loop file marks₀ index ledger book by area₀ st₀ at₀ count₀ marks area st at count = (length marks ≡ 30) × Walking (settingBy (by .today) book (by .sections) (foundIn ledger (by .live))) file index area₀ at st count area
 
 abbrev μ-loop : tie.MeasureT-loop
-μ-loop file index ledger live book q today area₀ st₀ at₀ findings₀ area st at findings = length file - at
+μ-loop file marks₀ index ledger book by area₀ st₀ at₀ count₀ marks area st at count = length file - at
 
 pub walk-spec : {M : Type 1} → statement M
 walk-spec =
@@ -23,8 +24,9 @@ walk-spec =
     μ-loop
     (λ c. search for-walk)
     (λ c. search for-walk)
-    (λ c κs. (search for-walk, (search for-walk, (c .before .before .before .before .before .before .before .before .before .pre .0, (c .before .before .before .before .before .before .before .before .before .pre .1, search for-walk)))))
     (λ c. search for-walk)
     (λ c. search for-walk)
     (λ c. search for-walk)
-    (λ c. (search for-walk, (search for-walk, search for-walk))))
+    (λ c. search for-walk)
+    (λ c. search for-walk)
+    (λ c. search for-walk))

@@ -1,6 +1,6 @@
 -- `rules::walk::next_born` meets its contract.
 -- Assumes nothing.
-use Rattle.rules.proofs.WalkNeeds.{for-next-day}
+use Rattle.rules.proofs.WalkNeeds.{for-next}
 use Rattle.rules.proofs.walk.next_born.Statement.{statement}
 use Rattle.rules.proofs.walk.next_born.Tie as tie
 
@@ -8,6 +8,6 @@ pub next-born-spec : {M : Type 1} → statement M
 next-born-spec =
     tie.close
     (tie.spec
-    (λ c. search for-next-day)
-    (λ c. search for-next-day)
-    (λ c. search for-next-day))
+    (λ c. search for-next)
+    (λ c. search for-next)
+    (λ c. search for-next))

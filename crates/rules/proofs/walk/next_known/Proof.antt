@@ -11,4 +11,5 @@ next-known-spec =
     (λ c. search for-next-known)
     (λ c. search for-next-known)
     (λ c. search for-next-known)
+    (λ c. search for-next-known)
     (λ c. search for-next-known))

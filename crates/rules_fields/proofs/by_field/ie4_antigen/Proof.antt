@@ -1,3 +1,5 @@
+-- `rules_fields::by_field::ie4_antigen` meets its contract.
+-- Assumes nothing.
 use Rattle.rules_fields.proofs.FieldNeeds.{for-parts}
 use Rattle.rules_fields.proofs.by_field.ie4_antigen.Statement.{statement}
 use Rattle.rules_fields.proofs.by_field.ie4_antigen.Tie as tie

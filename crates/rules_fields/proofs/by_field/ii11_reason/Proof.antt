@@ -1,3 +1,5 @@
+-- `rules_fields::by_field::ii11_reason` meets its contract.
+-- Assumes nothing.
 use Rattle.rules_fields.proofs.FieldNeeds.{for-parts}
 use Rattle.rules_fields.proofs.by_field.ii11_reason.Statement.{statement}
 use Rattle.rules_fields.proofs.by_field.ii11_reason.Tie as tie

@@ -1,6 +1,6 @@
 -- `rules_fields::by_rule::both_given` meets its contract.
 -- Assumes nothing.
-use Rattle.rules_fields.proofs.LookLaws.{for-given}
+use Rattle.rules_fields.proofs.CodeNeeds.{for-given}
 use Rattle.rules_fields.proofs.by_rule.both_given.Statement.{statement}
 use Rattle.rules_fields.proofs.by_rule.both_given.Tie as tie
 

@@ -13,4 +13,6 @@ is-known-spec =
     (λ c. search for-known)
     (λ c. search for-known)
     (λ c. search for-known)
+    (λ c. search for-known)
+    (λ c. search for-known)
     (λ c. search for-known))

@@ -10,5 +10,4 @@ is-given-spec =
     (tie.spec
     (λ c. search for-given)
     (λ c. search for-given)
-    (λ c. search for-given)
     (λ c. search for-given))

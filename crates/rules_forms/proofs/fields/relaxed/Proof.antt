@@ -13,8 +13,4 @@ relaxed-spec =
     (λ c. search for-relaxed)
     (λ c. search for-relaxed)
     (λ c. search for-relaxed)
-    (λ c. search for-relaxed)
-    (λ c. search for-relaxed)
-    (λ c. search for-relaxed)
-    (λ c. search for-relaxed)
     (λ c. search for-relaxed))

@@ -9,5 +9,4 @@ sound-text-spec =
     tie.close
     (tie.spec
     (λ c. search for-sound-text)
-    (λ c. search for-sound-text)
     (λ c. search for-sound-text))

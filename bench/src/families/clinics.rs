@@ -1,0 +1,119 @@
+//! The files of clinics, as they are in use.
+
+use super::BIRTH;
+use crate::codes;
+use crate::submission::{Dose, Submission};
+use crate::world::{self, World, TOMORROW};
+use differential::random::Random;
+
+/// An II with the antigens of its vaccine, each counted once.
+pub fn immunization(file: &mut Submission, world: &World, vaccine: usize, dose: &Dose) {
+    file.immunization(dose);
+    for antigen in &world.vaccine(vaccine).antigens {
+        file.antigen(&dose.uli, antigen, "1");
+    }
+}
+
+pub fn flu_clinic(world: &mut World) -> Vec<u8> {
+    flu_clinic_of(world, |_, _| ())
+}
+
+pub fn flu_clinic_with_findings(world: &mut World) -> Vec<u8> {
+    flu_clinic_of(world, |random, dose| {
+        if random.percent(5) {
+            break_a_rule(random, dose);
+        }
+    })
+}
+
+fn flu_clinic_of(world: &mut World, alter: fn(&mut Random, &mut Dose)) -> Vec<u8> {
+    let mut file = Submission::new(world.size.file());
+    while file.fits() {
+        let uli = world.uli();
+        let (vaccine, mut dose) = world.new_dose(&uli);
+        alter(&mut world.random, &mut dose);
+        file.patient(&uli, "SMITH", world.birth());
+        file.immunization(&dose);
+        file.antigen(&dose.uli, &world.vaccine(vaccine).antigens[0], "1");
+    }
+    file.finish()
+}
+
+fn break_a_rule(random: &mut Random, dose: &mut Dose) {
+    match random.below(10) {
+        0 => dose.site = "",
+        1 => dose.reason = "5X".to_string(),
+        2 => dose.vaccine = codes::VACCINE_UNKNOWN.to_string(),
+        3 => dose.manufacturer = codes::MANUFACTURER_ENDED,
+        4 => dose.uli = "100000000".to_string(),
+        5 => dose.date = TOMORROW,
+        6 => dose.method = "PO",
+        7 => dose.reason = codes::REASON_ALONE.to_string(),
+        8 => dose.submission_type = "C",
+        _ => dose.submission_type = "D",
+    }
+}
+
+pub fn travel_clinic(world: &mut World) -> Vec<u8> {
+    let mut file = Submission::new(world.size.file());
+    while file.fits() {
+        let uli = world.uli();
+        file.patient(&uli, "SMITH-JONES", world.birth());
+        for _ in 0..world.random.between(2, 5) {
+            let (vaccine, mut dose) = world.new_dose(&uli);
+            for lot in 1..=world.random.between(1, 3) {
+                dose.lot = format!("{}-{lot}", world.random.between(100, 999));
+                immunization(&mut file, world, vaccine, &dose);
+            }
+        }
+    }
+    file.finish()
+}
+
+pub fn changes_and_deletes(world: &mut World) -> Vec<u8> {
+    let mut events = world.live.clone();
+    world.random.shuffle(&mut events);
+    let mut file = Submission::new(world.size.file());
+    for event in &events {
+        if !file.fits() {
+            break;
+        }
+        let uli = world::uli_of(event);
+        let vaccine = world.vaccine_of(event);
+        let mut dose = world.dose(&uli, world::day_of(event), vaccine);
+        dose.submission_type = codes::one_of(&mut world.random, &["C", "D"]);
+        file.patient(&uli, "SMITH", world.birth());
+        immunization(&mut file, world, vaccine, &dose);
+    }
+    file.finish()
+}
+
+pub fn not_immunized(world: &mut World) -> Vec<u8> {
+    let mut file = Submission::new(world.size.file());
+    while file.fits() {
+        let uli = world.uli();
+        let name = "N".repeat(world.random.between(20, 60));
+        file.patient(&uli, &name, world.birth());
+        for _ in 0..world.random.between(1, 2) {
+            let day = world.day();
+            file.not_immunized(&uli, day, codes::reason_not(&mut world.random));
+            for _ in 0..world.random.between(1, 2) {
+                let antigen = world.random.pick(&world.codes.antigens);
+                file.antigen_not_administered(&uli, antigen);
+            }
+        }
+    }
+    file.finish()
+}
+
+pub fn one_patient(world: &mut World) -> Vec<u8> {
+    let uli = world.uli();
+    let mut file = Submission::new(world.size.file());
+    file.patient(&uli, "SMITH", BIRTH);
+    while file.fits() {
+        let (vaccine, dose) = world.new_dose(&uli);
+        file.immunization(&dose);
+        file.antigen(&uli, &world.vaccine(vaccine).antigens[0], "1");
+    }
+    file.finish()
+}

@@ -1,0 +1,6 @@
+//! The inputs that speed is measured on.
+
+pub mod codes;
+pub mod families;
+pub mod submission;
+pub mod world;

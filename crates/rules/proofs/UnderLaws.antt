@@ -1,0 +1,81 @@
+-- The findings of a file by what an index says: of the file's own they are the file's; of an empty one too, where no two blocks name one
+-- event, and no more elsewhere.
+-- Assumes nothing.
+use mathlib.Core.Path.{_≡_, refl, sym, ap, _∙_}
+use mathlib.Core.Bool.{Bool, true, false, _&&_}
+use mathlib.Core.Logic.{inl, inr}
+use mathlib.Core.List.{List, [], _∷_, _++_}
+use Prim.Native.Nat.{ℕ, _≤_}
+use native.Mathlib.Omega.{arith}
+use lib.ListN.{length, length-append}
+use Rattle.house.specs.Text.{Text, joined}
+use Rattle.house.specs.Members.{In}
+use Rattle.house.specs.Search.{binarySearch}
+use Rattle.lines.specs.Events.{eventsAt, ascends}
+use Rattle.lines.specs.Records.{Rec}
+use Rattle.ledger.specs.Ledger.{Event}
+use Rattle.rules_definitions.specs.Contexts.{Context, contextsIn}
+use Rattle.rules_definitions.specs.Blocks.{isInBlock, eventOf, beforeBlock, isRepeated}
+use Rattle.rules_definitions.specs.Seen.{Setting, Seen, seenAt}
+use Rattle.rules_definitions.specs.Findings.{Finding, fieldsFindings, lineFindings, findingsOf}
+use Rattle.rules_walk.specs.Firsts.{startAfter, indexOf, foundBefore}
+use Rattle.rules_walk.proofs.PassLaws.{place-passed}
+use Rattle.rules_walk.proofs.NamedLaws.{rule15-named}
+use Rattle.rules_walk.proofs.FindLaws.{found-named}
+use Rattle.rules_walk.proofs.OnceLaws.{once-new}
+use Rattle.rules.specs.Under.{withRepeated, repeatedBy, seenBy, lineFindingsBy, findingsUnder}
+use Rattle.rules.proofs.RepeatLaws.{alone-findings}
+
+-- lists put together of the same, or of no longer ones
+joined-same : (f g : Context → List Finding) (hs : List Context) → ((h : Context) → In h hs → f h ≡ g h) → joined f hs ≡ joined g hs
+joined-same f g [] e = refl
+joined-same f g (h ∷ hs) e = rw (e h (inl refl), joined-same f g hs (λ k m. e k (inr m)))
+
+joined-fewer : (f g : Context → List Finding) (hs : List Context) → ((h : Context) → In h hs → length (f h) ≤ length (g h)) → length (joined f hs) ≤ length (joined g hs)
+joined-fewer f g [] e = omega arith
+joined-fewer f g (h ∷ hs) e =
+    omega (arith, length-append (f h) (joined f hs), length-append (g h) (joined g hs), e h (inl refl), joined-fewer f g hs (λ k m. e k (inr m)))
+
+-- what is seen from a line, with what is known of its event, is what is seen
+seen-same : (s : Setting) (h : Context) (r : Bool) → r ≡ isRepeated (h .line) (h .before) → withRepeated r (seenAt s h) ≡ seenAt s h
+unfolding withRepeated seenAt
+seen-same s h r e = rw e
+
+module _ (s : Setting) (file : Text) (index : List ℕ) where
+  line-same : (h : Context) → repeatedBy file index (h .line) (h .before) ≡ isRepeated (h .line) (h .before) → lineFindingsBy s file index h ≡ lineFindings s h
+  unfolding lineFindingsBy lineFindings
+  line-same h e = ap (λ (v : Seen). fieldsFindings s (h .number) v 1 (length (h .line .fields))) (seen-same s h (repeatedBy file index (h .line) (h .before)) e)
+
+  under-same : ((h : Context) → In h (contextsIn file) → repeatedBy file index (h .line) (h .before) ≡ isRepeated (h .line) (h .before)) → findingsUnder s file index ≡ findingsOf s file
+  unfolding findingsUnder findingsOf
+  under-same e = joined-same (lineFindingsBy s file index) (lineFindings s) (contextsIn file) (λ h m. line-same h (e h m))
+
+-- by the file's own index
+own-says : (file : Text) (h : Context) → In h (contextsIn file) → repeatedBy file (indexOf file) (h .line) (h .before) ≡ isRepeated (h .line) (h .before)
+unfolding repeatedBy
+own-says file h m =
+    ap (λ (b : Bool). isInBlock (h .line) && b) (found-named file (eventOf (h .line)) (startAfter file (beforeBlock (h .line) (h .before))))
+    ∙ sym (rule15-named file (h .line) (h .before) (place-passed file h m .2))
+
+pub under-index : (s : Setting) (file : Text) (index : List ℕ) → index ≡ indexOf file → findingsUnder s file index ≡ findingsOf s file
+under-index s file index e = ap (findingsUnder s file) e ∙ under-same s file (indexOf file) (own-says file)
+
+-- by an empty one
+none-says : (file : Text) (l : Rec) (before : List Rec) → repeatedBy file [] l before ≡ false
+unfolding repeatedBy foundBefore binarySearch
+none-says file l before = go (isInBlock l)
+  where
+    go : (b : Bool) → b && false ≡ false
+    go true = refl
+    go false = refl
+
+pub under-none : (s : Setting) (file : Text) → ascends (eventsAt file (indexOf file)) ≡ true → findingsUnder s file [] ≡ findingsOf s file
+under-none s file o = under-same s file [] (λ h m. none-says file (h .line) (h .before) ∙ sym (once-new file o (h .line) (h .before) (place-passed file h m)))
+
+line-fewer : (s : Setting) (file : Text) (h : Context) → length (lineFindingsBy s file [] h) ≤ length (lineFindings s h)
+unfolding lineFindingsBy lineFindings
+line-fewer s file h = rw (none-says file (h .line) (h .before)) (alone-findings s (seenAt s h) (h .number) 1 (length (h .line .fields)))
+
+pub under-fewer : (s : Setting) (file : Text) → length (findingsUnder s file []) ≤ length (findingsOf s file)
+unfolding findingsUnder findingsOf
+under-fewer s file = joined-fewer (lineFindingsBy s file []) (lineFindings s) (contextsIn file) (λ h m. line-fewer s file h)
