@@ -30,7 +30,7 @@ use Rattle.rules.specs.declared.Judged.{Judged}
 use Rattle.rules.specs.declared.Judged.the-variants.{Done, TooMany}
 use Rattle.rules.specs.Look.{settingBy}
 use Rattle.rules.specs.Under.{findingsUnder}
-use Rattle.rules.specs.Judged.{findingsBy, judgedOf, judgedArea, WalkIs, GatherIs, Judging, Sorting}
+use Rattle.rules.specs.Judged.{findingsBy, judgedOf, judgedArea, FoundIs, WalkIs, Judging, Sorting}
 use Rattle.rules.proofs.UnderLaws.{under-index, under-none, under-fewer}
 
 -- the index is in order, or not
@@ -60,16 +60,16 @@ module _ (file book : Text) (by : By) (ledger : Text) (room : List ℕ) (area : 
   abbrev S : Setting
   S = settingBy (by .today) book (by .sections) (foundIn ledger (by .live))
 
-  module _ (w : Walked) (after : Text) (new : List ℕ) (g : GatherIs S file area room w after new) (b : Built) (e : b ≡ frontOf file new (w .blocks)) (index : List ℕ) (i : index ≡ frontIn file new (w .blocks)) where
+  module _ (w : Walked) (after : Text) (new : List ℕ) (g : WalkIs S file [] area room w after new) (b : Built) (e : b ≡ frontOf file new (w .blocks)) (index : List ℕ) (i : index ≡ frontIn file new (w .blocks)) where
     many : b ≡ NotBuilt → Judging file book by ledger room area TooMany index after
     unfolding judgedOf judgedArea frontIn
     many z =
         let f : canSortFront new (w .blocks) ≡ false = front-none file new (w .blocks) b e z in
-        let c : canBuild file (length room) ≡ false = can-same file room short (w .blocks) (g .blocks-are) new (g .index-is) ∙ f in
+        let c : canBuild file (length room) ≡ false = can-same file room short (w .blocks) (g .blocks-are) new (g .firsts-are) ∙ f in
         record {
           answer = rw c;
-          room-is = i ∙ rw f (not-built file room short (w .blocks) (g .blocks-are) new (g .index-is) f);
-          area-is = g .walk-is .area-is ∙ rw (c, le-leb (length file) 5000000 short);
+          room-is = i ∙ rw f (not-built file room short (w .blocks) (g .blocks-are) new (g .firsts-are) f);
+          area-is = g .found-is .area-is ∙ rw (c, le-leb (length file) 5000000 short);
         }
 
     module _ (n : ℕ) (d : Bool) (z : b ≡ Blocks n d) where
@@ -83,17 +83,17 @@ module _ (file book : Text) (by : By) (ledger : Text) (room : List ℕ) (area : 
       few = can-says new (w .blocks) can
 
       built : canBuild file (length room) ≡ true
-      built = can-same file room short (w .blocks) (g .blocks-are) new (g .index-is) ∙ can
+      built = can-same file room short (w .blocks) (g .blocks-are) new (g .firsts-are) ∙ can
 
       index-is : index ≡ sortedAt file (take (w .blocks) new) ++ drop (w .blocks) new
       unfolding frontIn
       index-is = i ∙ rw can
 
       room-is : index ≡ builtIn file room
-      room-is = index-is ∙ index-built file room short (w .blocks) (g .blocks-are) new (g .index-is) can (few .0) (few .1)
+      room-is = index-is ∙ index-built file room short (w .blocks) (g .blocks-are) new (g .firsts-are) can (few .0) (few .1)
 
       apart : d ≡ ascends (eventsAt file (indexOf file))
-      apart = front-done file new (w .blocks) b e n d z .1 .1 ∙ index-apart file room short (w .blocks) (g .blocks-are) new (g .index-is) can (few .0) (few .1)
+      apart = front-done file new (w .blocks) b e n d z .1 .1 ∙ index-apart file room short (w .blocks) (g .blocks-are) new (g .firsts-are) can (few .0) (few .1)
 
       done : (findings : ℕ) (last : Text) → findings ≡ length (findingsOf S file) → last ≡ areaAfter area (findingsOf S file)
           → Judging file book by ledger room area (Done n findings (w .«not_immunized»)) index last
@@ -108,15 +108,15 @@ module _ (file book : Text) (by : By) (ledger : Text) (room : List ℕ) (area : 
       once : d ≡ true → Judging file book by ledger room area (Done n (w .findings) (w .«not_immunized»)) index after
       once t =
           let u : findingsUnder S file [] ≡ findingsOf S file = under-none S file (sym apart ∙ t) in
-          done (w .findings) after (g .walk-is .count-is ∙ ap length u) (g .walk-is .area-is ∙ ap (areaAfter area) u)
+          done (w .findings) after (g .found-is .count-is ∙ ap length u) (g .found-is .area-is ∙ ap (areaAfter area) u)
 
-      again : (findings : ℕ) (last : Text) → WalkIs S file (take n index) after findings last
+      again : (findings : ℕ) (last : Text) → FoundIs S file (take n index) after findings last
           → Judging file book by ledger room area (Done n findings (w .«not_immunized»)) index last
       again findings last a =
-          let f : take n index ≡ indexOf file = rw (n-is, index-is) (index-front file room short (w .blocks) (g .blocks-are) new (g .index-is) can (few .0) (few .1)) in
+          let f : take n index ≡ indexOf file = rw (n-is, index-is) (index-front file room short (w .blocks) (g .blocks-are) new (g .firsts-are) can (few .0) (few .1)) in
           let u : findingsUnder S file (take n index) ≡ findingsOf S file = under-index S file (take n index) f in
           done findings last (a .count-is ∙ ap length u)
-          (a .area-is ∙ rw (u, g .walk-is .area-is) (area-again area (findingsUnder S file []) (findingsOf S file) (under-fewer S file)))
+          (a .area-is ∙ rw (u, g .found-is .area-is) (area-again area (findingsUnder S file []) (findingsOf S file) (under-fewer S file)))
 
 -- judge_sorted
 module _ (file book : Text) (by : By) (ledger : Text) (short : length file ≤ 5000000) (w : Walked) (left : Text) (new : List ℕ) (b : Built) (e : b ≡ frontOf file new (w .blocks)) (index : List ℕ)
@@ -128,7 +128,7 @@ module _ (file book : Text) (by : By) (ledger : Text) (short : length file ≤ 5
     pub sorted-once : d ≡ true → Sorting file book by ledger w new left (Done n (w .findings) (w .«not_immunized»)) index left
     sorted-once t = record { judging = λ room area g. once file book by ledger room area short w left new g b e index i n d z t }
 
-    pub sorted-again : (findings : ℕ) (last : Text) → WalkIs (settingBy (by .today) book (by .sections) (foundIn ledger (by .live))) file (take n index) left findings last
+    pub sorted-again : (findings : ℕ) (last : Text) → FoundIs (settingBy (by .today) book (by .sections) (foundIn ledger (by .live))) file (take n index) left findings last
         → Sorting file book by ledger w new left (Done n findings (w .«not_immunized»)) index last
     sorted-again findings last a = record { judging = λ room area g. again file book by ledger room area short w left new g b e index i n d z findings last a }
 
@@ -136,20 +136,19 @@ pub ruleset for-judge-sorted = (needs, sorted-many, sorted-once, sorted-again)
 
 -- judge_file
 pub file-judged : (file book : Text) (by : By) (ledger : Text) (w : Walked) (room new : List ℕ) (area left : Text) (r : Judged) (index : List ℕ) (after : Text)
-    → GatherIs (settingBy (by .today) book (by .sections) (foundIn ledger (by .live))) file area room w left new
+    → WalkIs (settingBy (by .today) book (by .sections) (foundIn ledger (by .live))) file [] area room w left new
     → Sorting file book by ledger w new left r index after → Judging file book by ledger room area r index after
 file-judged file book by ledger w room new area left r index after g s = s .judging room area g
 
 pub ruleset for-judge-file = (needs, file-judged)
 
 -- walk_by
-pub by-all : (s : Setting) (file : Text) (places : List ℕ) (n : ℕ) (area : Text) (r : ℕ) (after : Text) → length places ≤ n → WalkIs s file places area r after
-    → WalkIs s file (take n places) area r after
-by-all s file places n area r after h w = rw (take-all n places h) w
+module _ (s : Setting) (file : Text) (places : List ℕ) (n : ℕ) (area : Text) (old : List ℕ) (r : Walked) (after : Text) (new : List ℕ) where
+  pub by-all : length places ≤ n → WalkIs s file places area old r after new → FoundIs s file (take n places) area (r .findings) after
+  by-all h w = rw (take-all n places h) (w .found-is)
 
-pub by-front : (s : Setting) (file : Text) (places : List ℕ) (n : ℕ) (area : Text) (r : ℕ) (after : Text) → WalkIs s file (take (n - 0) places) area r after
-    → WalkIs s file (take n places) area r after
-by-front s file places n area r after w = let e : n - 0 ≡ n = omega arith in rw e at w
+  pub by-front : WalkIs s file (take (n - 0) places) area old r after new → FoundIs s file (take n places) area (r .findings) after
+  by-front w = let e : n - 0 ≡ n = omega arith in rw e at (w .found-is)
 
 pub ruleset for-walk-by = (needs, by-all, by-front)
 

@@ -33,6 +33,7 @@ mod ReadNeeds
 mod WalkNeeds
 mod TurnNeeds
 mod GatherNeeds
+mod PassNeeds
 mod JudgeNeeds
 -- No second answer
 mod OneAnswer

@@ -36,17 +36,17 @@ judgedArea today file book q ledger n room area =
     cond (canBuild file room) (areaAfter area (findingsBy today file book q ledger n))
     (cond (leb (length file) fileMost) (areaAfter area (findingsUnder (settingBy today book q (foundIn ledger n)) file [])) area)
 
--- what a walk over a file leaves, events named before being looked up in an index: how many findings, and the area
-pub record WalkIs (s : Setting) (file : Text) (index : List ℕ) (area : Text) (r : ℕ) (after : Text) : Type 0 where
+-- what a walk over a file finds, events named before being looked up in an index: how many findings, and the area after
+pub record FoundIs (s : Setting) (file : Text) (index : List ℕ) (area : Text) (r : ℕ) (after : Text) : Type 0 where
   pub count-is : r ≡ length (findingsUnder s file index)
   pub area-is : after ≡ areaAfter area (findingsUnder s file index)
 
--- the same where no event is looked up; and the first places of its blocks are written to the front of an area
-pub record GatherIs (s : Setting) (file area : Text) (old : List ℕ) (r : Walked) (after : Text) (index : List ℕ) : Type 0 where
-  pub walk-is : WalkIs s file [] area (r .findings) after
+-- the same, and what else a walk leaves: the first places of its blocks are written to the front of an area
+pub record WalkIs (s : Setting) (file : Text) (index : List ℕ) (area : Text) (old : List ℕ) (r : Walked) (after : Text) (firsts : List ℕ) : Type 0 where
+  pub found-is : FoundIs s file index area (r .findings) after
   pub blocks-are : r .blocks ≡ length (firstsOf file)
   pub not-immunized-is : r .«not_immunized» ≡ howMany (isKind IN) (recs file)
-  pub index-is : index ≡ over (firstsOf file) old
+  pub firsts-are : firsts ≡ over (firstsOf file) old
 
 -- what judging a file that is not too long leaves: its answer, the room and the area
 pub record Judging (file book : Text) (by : By) (ledger : Text) (room : List ℕ) (area : Text) (r : Judged) (index : List ℕ) (after : Text) : Type 0 where
@@ -56,5 +56,5 @@ pub record Judging (file book : Text) (by : By) (ledger : Text) (room : List ℕ
 
 -- the same, once a walk has gathered its blocks in the room and left the area so
 pub record Sorting (file book : Text) (by : By) (ledger : Text) (w : Walked) (new : List ℕ) (left : Text) (r : Judged) (index : List ℕ) (after : Text) : Type 0 where
-  pub judging : (room : List ℕ) (area : Text) → GatherIs (settingBy (by .today) book (by .sections) (foundIn ledger (by .live))) file area room w left new
+  pub judging : (room : List ℕ) (area : Text) → WalkIs (settingBy (by .today) book (by .sections) (foundIn ledger (by .live))) file [] area room w left new
       → Judging file book by ledger room area r index after

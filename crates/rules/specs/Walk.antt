@@ -29,7 +29,6 @@ use Rattle.rules.specs.declared.State.{State}
 use Rattle.rules.specs.declared.Read.{Read}
 use Rattle.rules.specs.declared.BlockAt.{BlockAt}
 use Rattle.rules.specs.declared.Here.{Here}
-use Rattle.rules.specs.declared.Turn.{Turn}
 use Rattle.rules_fields.specs.declared.Facts.{Facts}
 use Rattle.rules_fields.specs.declared.Day.{Day}
 use Rattle.rules.specs.Inside.{kept, keep}

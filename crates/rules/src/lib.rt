@@ -95,14 +95,6 @@ struct BlockAt {
     from: usize,
 }
 
-// The walk at a line: where it starts, the state there, how many findings there are so far, and whether the line before begins a block.
-struct Turn {
-    at: usize,
-    st: State,
-    count: usize,
-    first: bool,
-}
-
 // What a whole walk finds: how many blocks, findings and IN records.
 struct Walked {
     blocks: usize,
