@@ -27,6 +27,7 @@ mod ReasonLaws
 mod FieldNeeds
 mod HeadNeeds
 mod VaccineNeeds
+mod LastNeeds
 mod LineNeeds
 mod LookNeeds
 mod ReadNeeds

@@ -38,18 +38,18 @@ walk-spec =
     (λ c. search for-walk)
     (λ c. search (for-walk, c .before .before .before .before .before .before .before .before .before .before .before .before .before .before .before .before .before .before .before .before .before .before .before .before .before .pre, c .before .before .before .before .before .before .before .before .before .before .before .before .before .before .before .before .before .loop .inv))
     (λ c. walk-falls _ _ _ _ _ _ _ _ _ _ _ _ _ (c .before .before .before .before .before .before .before .before .before .before .before .before .before .before .before .before .before .loop .inv .1) (c .before .before .before .before .before .before .before .before .before .before .before .before .before .before .before .before .before .loop .marks) (c .before .before .before .before .before .before .before .before .before .before .before .before .before .before .before .before .before .loop .inv .0) (c .before .before .before .before .before .before .before .before .before .before .before .before .before .before .before .before .before .before .before .before .before .before .before .before .before .pre) (c .before .before .before .before .before .before .before .before .before .before .before .before .before .before .before .before .loop-test .taken) _ (c .before .before .before .before .before .before .before .before .before .before .before .before .before .before .look .ensures .1) _ (c .before .before .before .before .before .before .before .before .before .before .before .before .before .before .look .ensures .0)
-    _ _ (c .before .before .before .before .before .before .before .before .before .before .judge-line .ensures .0) (c .before .before .before .before .before .before .before .before .before .before .judge-line .ensures .1) _ (c .before .before .before .before .before .before .advance .ensures) _ (c .before .before .before .before .before .begins .ensures))
+    _ _ (c .before .before .before .before .before .before .before .before .before .before .judge-line .ensures .are) (c .before .before .before .before .before .before .before .before .before .before .judge-line .ensures .few) _ (c .before .before .before .before .before .before .advance .ensures) _ (c .before .before .before .before .before .begins .ensures))
     (λ c. (
       c .before .before .before .before .before .before .before .before .before .before .before .before .before .before .look .kept .1 .0 ∙ c .before .before .before .before .before .before .before .before .before .before .before .before .before .before .before .before .before .loop .inv .0,
       walk-first _ _ _ _ _ _ _ _ _ _ _ _ _ (c .before .before .before .before .before .before .before .before .before .before .before .before .before .before .before .before .before .loop .inv .1) (c .before .before .before .before .before .before .before .before .before .before .before .before .before .before .before .before .before .loop .marks) (c .before .before .before .before .before .before .before .before .before .before .before .before .before .before .before .before .before .loop .inv .0) (c .before .before .before .before .before .before .before .before .before .before .before .before .before .before .before .before .before .before .before .before .before .before .before .before .before .pre) (c .before .before .before .before .before .before .before .before .before .before .before .before .before .before .before .before .loop-test .taken) _ (c .before .before .before .before .before .before .before .before .before .before .before .before .before .before .look .ensures .1) _ (c .before .before .before .before .before .before .before .before .before .before .before .before .before .before .look .ensures .0)
-          _ _ (c .before .before .before .before .before .before .before .before .before .before .judge-line .ensures .0) (c .before .before .before .before .before .before .before .before .before .before .judge-line .ensures .1) _ (c .before .before .before .before .before .before .advance .ensures) _ (c .before .before .before .before .before .begins .ensures) (c .before .before .before .before .before .before .before .before .before .before .judge-line .kept .1 .1 .1 .1 .1 .0) _ (c .before .before .before .before .if1 .taken) (c .before .before .put .ensures),
+          _ _ (c .before .before .before .before .before .before .before .before .before .before .judge-line .ensures .are) (c .before .before .before .before .before .before .before .before .before .before .judge-line .ensures .few) _ (c .before .before .before .before .before .before .advance .ensures) _ (c .before .before .before .before .before .begins .ensures) (c .before .before .before .before .before .before .before .before .before .before .judge-line .kept .1 .1 .1 .1 .1 .0) _ (c .before .before .before .before .if1 .taken) (c .before .before .put .ensures),
     ))
     (λ c. walk-falls _ _ _ _ _ _ _ _ _ _ _ _ _ (c .before .before .before .before .before .before .before .before .before .before .before .before .before .loop .inv .1) (c .before .before .before .before .before .before .before .before .before .before .before .before .before .loop .marks) (c .before .before .before .before .before .before .before .before .before .before .before .before .before .loop .inv .0) (c .before .before .before .before .before .before .before .before .before .before .before .before .before .before .before .before .before .before .before .before .before .pre) (c .before .before .before .before .before .before .before .before .before .before .before .before .loop-test .taken) _ (c .before .before .before .before .before .before .before .before .before .before .look .ensures .1) _ (c .before .before .before .before .before .before .before .before .before .before .look .ensures .0)
-    _ _ (c .before .before .before .before .before .before .judge-line .ensures .0) (c .before .before .before .before .before .before .judge-line .ensures .1) _ (c .before .before .advance .ensures) _ (c .before .begins .ensures))
+    _ _ (c .before .before .before .before .before .before .judge-line .ensures .are) (c .before .before .before .before .before .before .judge-line .ensures .few) _ (c .before .before .advance .ensures) _ (c .before .begins .ensures))
     (λ c. (
       c .before .before .before .before .before .before .before .before .before .before .look .kept .1 .0 ∙ c .before .before .before .before .before .before .before .before .before .before .before .before .before .loop .inv .0,
       walk-other _ _ _ _ _ _ _ _ _ _ _ _ _ (c .before .before .before .before .before .before .before .before .before .before .before .before .before .loop .inv .1) (c .before .before .before .before .before .before .before .before .before .before .before .before .before .loop .marks) (c .before .before .before .before .before .before .before .before .before .before .before .before .before .loop .inv .0) (c .before .before .before .before .before .before .before .before .before .before .before .before .before .before .before .before .before .before .before .before .before .pre) (c .before .before .before .before .before .before .before .before .before .before .before .before .loop-test .taken) _ (c .before .before .before .before .before .before .before .before .before .before .look .ensures .1) _ (c .before .before .before .before .before .before .before .before .before .before .look .ensures .0)
-          _ _ (c .before .before .before .before .before .before .judge-line .ensures .0) (c .before .before .before .before .before .before .judge-line .ensures .1) _ (c .before .before .advance .ensures) _ (c .before .begins .ensures) (c .before .before .before .before .before .before .judge-line .kept .1 .1 .1 .1 .1 .0) (c .if1 .left),
+          _ _ (c .before .before .before .before .before .before .judge-line .ensures .are) (c .before .before .before .before .before .before .judge-line .ensures .few) _ (c .before .before .advance .ensures) _ (c .before .begins .ensures) (c .before .before .before .before .before .before .judge-line .kept .1 .1 .1 .1 .1 .0) (c .if1 .left),
     ))
     (λ c. search for-walk)
     (λ c. search for-walk)
