@@ -18,38 +18,11 @@ use Rattle.house.proofs.Small.{both, Three, lt, eq, gt, three}
 use Rattle.house.proofs.OrderAlgebra.{orElse, order-append, cons-lt, cons-eq, cons-gt}
 use Rattle.house.proofs.OrderLaws.{length-pad}
 use Rattle.house.proofs.Decisions.{not-same}
-use Rattle.house.proofs.Suffix.{drop-here, drop-past}
+use Rattle.house.proofs.Suffix.{drop-here, drop-past, eight}
+use Rattle.house.proofs.DigitLaws.{together}
 use Rattle.book.specs.Inside.{isByte, codeOrder}
 
--- eight bytes, one by one
-one-more : (s : Text) (i j n : ℕ) → i < length s → j ≡ i + 1 → take (suc n) (drop i s) ≡ getD s i 0 ∷ take n (drop j s)
-one-more s i j n h e = rw (e, drop-here s i h)
-
-module _ (s : Text) (i : ℕ) (h : i + 8 ≤ length s) where
-  pub eight : take 8 (drop i s)
-      ≡ getD s i 0 ∷ getD s (i + 1) 0 ∷ getD s (i + 2) 0 ∷ getD s (i + 3) 0 ∷ getD s (i + 4) 0 ∷ getD s (i + 5) 0 ∷ getD s (i + 6) 0 ∷ getD s (i + 7) 0 ∷ []
-  eight =
-      one-more s i (i + 1) 7 (omega arith) refl
-      ∙ ap (λ (t : Text). getD s i 0 ∷ t) (one-more s (i + 1) (i + 2) 6 (omega arith) (omega arith)
-      ∙ ap (λ (t : Text). getD s (i + 1) 0 ∷ t) (one-more s (i + 2) (i + 3) 5 (omega arith) (omega arith)
-      ∙ ap (λ (t : Text). getD s (i + 2) 0 ∷ t) (one-more s (i + 3) (i + 4) 4 (omega arith) (omega arith)
-      ∙ ap (λ (t : Text). getD s (i + 3) 0 ∷ t) (one-more s (i + 4) (i + 5) 3 (omega arith) (omega arith)
-      ∙ ap (λ (t : Text). getD s (i + 4) 0 ∷ t) (one-more s (i + 5) (i + 6) 2 (omega arith) (omega arith)
-      ∙ ap (λ (t : Text). getD s (i + 5) 0 ∷ t) (one-more s (i + 6) (i + 7) 1 (omega arith) (omega arith)
-      ∙ ap (λ (t : Text). getD s (i + 6) 0 ∷ t) (one-more s (i + 7) (i + 8) 0 (omega arith) (omega arith))))))))
-
 -- eight_are
-together : (a b c d e f g h : Bool) → (a && b && c && d && e && f && g && h) ≡ (a && (b && (c && (d && (e && (f && (g && (h && true))))))))
-together true true true true true true true true = refl
-together true true true true true true true false = refl
-together true true true true true true false h = refl
-together true true true true true false g h = refl
-together true true true true false f g h = refl
-together true true true false e f g h = refl
-together true true false d e f g h = refl
-together true false c d e f g h = refl
-together false b c d e f g h = refl
-
 pub eight-same : (s : Text) (i v : ℕ) → i + 8 ≤ length s
     → (eqb (getD s i 0) v && eqb (getD s (i + 1) 0) v && eqb (getD s (i + 2) 0) v && eqb (getD s (i + 3) 0) v && eqb (getD s (i + 4) 0) v && eqb (getD s (i + 5) 0) v && eqb (getD s (i + 6) 0) v && eqb (getD s (i + 7) 0) v)
     ≡ all (isByte v) (take 8 (drop i s))

@@ -11,7 +11,7 @@ use lib.Dec.{eqb, leb}
 use lib.ListN.{length, getD, take, drop, length-drop}
 use lib.Seq.{drop-drop, take-take, take-add, drop-append-seam, length-take-le}
 use Rattle.house.specs.Text.{Text, all, number}
-use Rattle.house.proofs.Suffix.{drop-here}
+use Rattle.house.proofs.Suffix.{drop-here, eight}
 use Rattle.book.specs.declared.Position.{Position}
 use Rattle.book.specs.declared.Sections.{Sections}
 use Rattle.book.specs.declared.Found.{Found}
@@ -22,7 +22,7 @@ use Rattle.book.specs.Book.{startWidth, codeWidth, bodyWidth, entryOf, d
 use Rattle.book.specs.LookUp.{foundIn, knownBy, inForceBy, standingBy}
 use Rattle.book.specs.Inside.{isByte, Lies, FoundIs}
 use Rattle.book.proofs.WidthLaws.{body-parts}
-use Rattle.book.proofs.CodeLaws.{eight, eight-nines}
+use Rattle.book.proofs.CodeLaws.{eight-nines}
 
 -- digit
 pub digit-none : (b : ℕ) → b < 48 → 0 ≡ b - 48
