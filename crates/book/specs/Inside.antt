@@ -2,9 +2,9 @@
 -- Assumes nothing.
 use Prim.Native.Nat.{ℕ, suc, _+_, _≤_, _<_}
 use mathlib.Core.Path.{_≡_}
-use mathlib.Core.Bool.{Bool, true, cond, _&&_}
+use mathlib.Core.Bool.{Bool, true, false, cond, _&&_}
 use mathlib.Core.List.{List, [], _∷_, _++_}
-use lib.ListN.{length, take, drop}
+use lib.ListN.{length, getD, take, drop}
 use lib.Dec.{eqb, leb}
 use Rattle.house.specs.Text.{Text, below, pad, orderOf}
 use Rattle.house.specs.declared.Order.{Order}
@@ -42,6 +42,23 @@ pub record RunIs (s : Text) (from k r : ℕ) : Type 0 where
 
 abbrev pub isByte : ℕ → ℕ → Bool
 isByte v b = eqb b v
+
+-- a Boolean tells whether something holds
+pub record Tells (P : Type 0) (r : Bool) : Type 0 where
+  pub holds : r ≡ true → P
+  pub fails : r ≡ false → P → ⊥
+
+-- all bytes from a place to another are blanks
+abbrev pub Blank : Text → ℕ → ℕ → Type 0
+Blank s from to = (j : ℕ) → from ≤ j → j < to → getD s j 0 ≡ 32
+
+-- the four bytes at a place are those at place i of a text
+abbrev pub FourSame : Text → ℕ → Text → ℕ → Type 0
+FourSame s at t i = (k : ℕ) → k < 4 → getD s (at + k) 0 ≡ getD t (i + k) 0
+
+-- the first n bytes of a text stand at a place
+abbrev pub Stands : Text → ℕ → Text → ℕ → Type 0
+Stands s at t n = (j : ℕ) → j < n → getD s (at + j) 0 ≡ getD t j 0
 
 -- neither text is longer than its width
 unfoldable pub fits : ℕ → Text → Text → Bool
