@@ -12,7 +12,9 @@ use Rattle.book.specs.declared.Sections.{Sections}
 use Rattle.book.specs.declared.Layout.{Layout}
 use Rattle.book.specs.declared.Found.{Found}
 use Rattle.book.specs.declared.Found.the-variants.{At, Absent}
-use Rattle.book.specs.LookUp.{sectionStart, countFrom, entryHashed, namedIn, searchedIn, soughtIn}
+use Rattle.book.specs.declared.Standing.{Standing}
+use Rattle.book.specs.declared.Standing.the-variants.{Unknown, OutOfForce, InForce}
+use Rattle.book.specs.LookUp.{sectionStart, countFrom, entryHashed, namedIn, searchedIn, soughtIn, isThere, isInForceAt}
 use Rattle.book.specs.Book.{firstWidth, secondWidth, codeWidth, bodyWidth, Entry, entryOf, entries, codeOf, bodyForm, entryForm, above, bytesBefore, codeText}
 
 -- Validity, kind by kind
@@ -118,3 +120,15 @@ SoughtIs s k w i a b r = FoundIs s k (soughtIn s k (w .from) (countFrom s k (w .
 
 abbrev pub HashedIs : Text → ℕ → Layout → ℕ → Text → Text → Found → Type 0
 HashedIs s k w end a b r = SoughtIs s k w (entryHashed s end k (codeText k a b)) a b r
+
+-- the entry of kind k that has the code of two texts, among those laid out so, by the table from `end` on
+unfoldable pub foundBy : Text → ℕ → Layout → ℕ → Text → Text → Found
+foundBy s k w end a b =
+    let code = codeText k a b in
+    cond (eqb (length code) (codeWidth k)) (soughtIn s k (w .from) (countFrom s k (w .from) (w .to)) code (entryHashed s end k code)) Absent
+
+-- what it says on day d
+unfoldable pub saidBy : Text → ℕ → Layout → ℕ → Text → Text → ℕ → Standing
+saidBy s k w end a b d =
+    let f = foundBy s k w end a b in
+    cond (isThere f) (cond (isInForceAt s d k f) InForce OutOfForce) Unknown
