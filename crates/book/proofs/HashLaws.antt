@@ -1,5 +1,5 @@
--- What each need of the hash table asks: `hash`, `last_byte`, `hashed`, `put_byte`, `hash_entry`, `hash_entries`, `hash_kinds`, `copy_book` and
--- `hash_book`.
+-- What each need of the hash table asks: `hash_on`, `hash`, `last_byte`, `hashed`, `put_byte`, `hash_entry`, `hash_entries`, `hash_kinds`,
+-- `copy_book` and `hash_book`.
 -- Assumes nothing.
 use mathlib.Core.Path.{_≡_, refl, sym, ap, _∙_}
 use mathlib.Core.Bool.{Bool, true, false, cond}
@@ -23,25 +23,34 @@ use Rattle.book.specs.LookUp.{sectionStart, countFrom, countIn, placeOf,
 use Rattle.book.specs.Inside.{WidthsAre, LayoutIs}
 use Rattle.book.proofs.SearchLaws.{probe-mul, probe-add, probe-body, probe-code}
 
--- hashOf
+-- hash_on
+module _ (h b : ℕ) where
+  pub hash-blank : b ≡ 32 → h ≡ cond (eqb b 32) h ((h * 37 + b) % 32768)
+  hash-blank e = rw (eq-eqb _ _ e)
+
+  pub hash-byte : (v : ℕ) → (b ≡ 32 → ⊥) → v ≡ b → (h * 37 + v) % 32768 ≡ cond (eqb b 32) h ((h * 37 + b) % 32768)
+  hash-byte v n e = rw (ne-eqb _ _ n, e)
+
+pub hash-low : (n : ℕ) → n % 32768 < 32768
+hash-low n = mod-lt n (omega arith)
+
+pub ruleset for-hash-on = (needs, hash-blank, hash-byte, hash-low)
+
+-- hash
 module _ (t : Text) (from h i : ℕ) (inv : hashOf from t ≡ hashOf h (drop i t)) where
-  module _ (l : i < length t) where
-    pub hash-of-blank : getD t i 0 ≡ 32 → hashOf from t ≡ hashOf h (drop (i + 1) t)
-    unfolding hashOf
-    hash-of-blank e = inv ∙ rw (drop-here t i l, eq-eqb _ _ e)
-
-    pub hash-of-byte : (v : ℕ) → (getD t i 0 ≡ 32 → ⊥) → v ≡ getD t i 0 → hashOf from t ≡ hashOf ((h * 37 + v) % 32768) (drop (i + 1) t)
-    unfolding hashOf
-    hash-of-byte v e f = inv ∙ rw (drop-here t i l, ne-eqb _ _ e, ← f)
-
-  pub hash-of-end : length t ≤ i → h ≡ hashOf from t
+  pub hash-more : (r : ℕ) → i < length t → r ≡ cond (eqb (getD t i 0) 32) h ((h * 37 + getD t i 0) % 32768) → hashOf from t ≡ hashOf r (drop (i + 1) t)
   unfolding hashOf
-  hash-of-end l = sym (inv ∙ rw (drop-past t i l))
+  hash-more r l e = inv ∙ rw (drop-here t i l, e) (go (eqb (getD t i 0) 32))
+    where
+      go : (c : Bool) → cond c (hashOf h (drop (i + 1) t)) (hashOf ((h * 37 + getD t i 0) % 32768) (drop (i + 1) t)) ≡ hashOf (cond c h ((h * 37 + getD t i 0) % 32768)) (drop (i + 1) t)
+      go true = refl
+      go false = refl
 
-pub hash-of-low : (n : ℕ) → n % 32768 < 32768
-hash-of-low n = mod-lt n (omega arith)
+  pub hash-end : length t ≤ i → h ≡ hashOf from t
+  unfolding hashOf
+  hash-end l = sym (inv ∙ rw (drop-past t i l))
 
-pub ruleset for-hash = (needs, hash-of-blank, hash-of-byte, hash-of-end, hash-of-low)
+pub ruleset for-hash = (needs, hash-more, hash-end)
 
 -- last_byte
 pub byte-past : (t : Text) (at : ℕ) → length t ≤ at → 0 ≡ getD t at 0

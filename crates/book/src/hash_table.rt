@@ -4,8 +4,10 @@ use crate::Layout;
 use crate::Sections;
 use crate::layouts::count_of;
 ghost use mathlib.Core.Path.{_≡_};
+ghost use mathlib.Core.Bool.{cond};
 ghost use mathlib.Core.List.{_++_};
-ghost use Prim.Native.Nat.{_<_, _≤_, _+_, _-_, _*_};
+ghost use Prim.Native.Nat.{_<_, _≤_, _+_, _-_, _*_, _%_};
+ghost use lib.Dec.{eqb};
 ghost use lib.ListN.{length, drop, set, getD};
 ghost use Rattle.book.specs.Book.{codeText};
 ghost use Rattle.book.specs.LookUp.{hashOf, entryHashed, hashEntry, hashKind, hashKinds, withHashTable};
@@ -19,6 +21,19 @@ fn value(b: u8) -> usize
     b as usize
 }
 
+// A hash, with one byte more.
+fn hash_on(h: usize, b: u8) -> usize
+    requires { ⌜ h < 32768 ⌝ }
+    ensures { λ r. ⌜ r ≡ cond (eqb b 32) h ((h * 37 + b) % 32768) ⌝ }
+    ensures { λ r. ⌜ r < 32768 ⌝ }
+{
+    if b == 32 {
+        h
+    } else {
+        (h * 37 + value(b)) % 32768
+    }
+}
+
 // The hash of a text, from another on.
 fn hash(from: usize, text: &[u8]) -> usize
     requires { ⌜ from < 32768 ⌝ }
@@ -28,12 +43,7 @@ fn hash(from: usize, text: &[u8]) -> usize
     let mut h = from;
     let mut i = 0;
     while i < text.len() {
-        let b = text[i];
-        if b != 32 {
-            h = (h * 37 + value(b)) % 32768;
-            i += 1;
-            continue;
-        }
+        h = hash_on(h, text[i]);
         i += 1;
     }
     h

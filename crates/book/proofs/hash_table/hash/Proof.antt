@@ -1,5 +1,3 @@
--- `book::hash_table::hash` meets its contract.
--- Assumes nothing.
 use Rattle.book.proofs.HashLaws.{for-hash}
 use mathlib.Core.Path.{_≡_}
 use Prim.Native.Nat.{_-_, _<_}
@@ -20,11 +18,6 @@ hash-spec =
     (tie.spec
     Inv-loop
     μ-loop
-    (λ c. search for-hash)
-    (λ c. search for-hash)
-    (λ c. search for-hash)
-    (λ c. search for-hash)
-    (λ c. search for-hash)
     (λ c. search for-hash)
     (λ c. search for-hash)
     (λ c. search for-hash)
