@@ -9,6 +9,7 @@ use crate::fields::judge_ip;
 use crate::fields::judge_iv;
 use crate::fields::judge_plain;
 use crate::vaccine::judge_ii;
+use house::wide;
 use lines::IA;
 use lines::IE;
 use lines::IF;
@@ -47,13 +48,6 @@ fn judge_other(file: &[u8], marks: &[u32], here: Here, by: By, f: usize) -> Brok
         IP => judge_ip(file, marks, here, by, f),
         _ => judge_plain(file, marks, here, f),
     }
-}
-
-// A mark as a number of any size.
-fn wide(mark: u32) -> usize
-    ensures { λ r. ⌜ r ≡ mark ⌝ }
-{
-    mark as usize
 }
 
 // How many fields a line with these marks has.

@@ -95,8 +95,8 @@ fn judged(
     area: &mut [u8],
 ) {
     let today = vectors_stream::number_at(numbers, 0);
-    let blocks = vectors_stream::wide_number(vectors_stream::number_at(numbers, 4));
-    let bytes = vectors_stream::wide_number(vectors_stream::number_at(numbers, 8));
+    let blocks = house::wide(vectors_stream::number_at(numbers, 4));
+    let bytes = house::wide(vectors_stream::number_at(numbers, 8));
     if buffer.len() < blocks {
         return;
     }
