@@ -2,7 +2,10 @@ pub mod Ranks
 pub mod Order
 pub mod EventLaws
 pub mod AlikeNeeds
+pub mod PackLaws
 pub mod RankLaws
+pub mod TieLaws
+pub mod FillLaws
 pub mod MergeLaws
 pub mod RankedLaws
 pub mod SortLaws
