@@ -5,6 +5,7 @@ pub mod AlikeNeeds
 pub mod PackLaws
 pub mod RankLaws
 pub mod TieLaws
+pub mod FoundLaws
 pub mod FillLaws
 pub mod MergeLaws
 pub mod RankedLaws
