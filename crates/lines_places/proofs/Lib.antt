@@ -10,6 +10,7 @@ pub mod FoundLaws
 pub mod FillLaws
 pub mod MergeLaws
 pub mod RankedLaws
+pub mod ShortLaws
 pub mod SortLaws
 pub mod SortedLaws
 pub mod OneAnswer
