@@ -1,4 +1,5 @@
 // Where the ULI, the date and the vaccine of a line stand, if the line is as most are: its ULI has nine digits and its date eight.
+use house::Key;
 ghost use mathlib.Core.Path.{_≡_};
 ghost use mathlib.Core.Logic.{_⊎_};
 ghost use Prim.Native.Nat.{_≤_};
@@ -11,6 +12,14 @@ const NO_NUMBER: u64 = 18446744073709551615;
 const MOST_ULI: u64 = 999999999;
 
 pub(crate) const MOST_NUMBER: u64 = 99999999999999999;
+
+// How many bytes a ULI of nine digits and a date of eight have with the pipe after each.
+const ULI_AND_PIPE: usize = 10;
+
+const DATE_AND_PIPE: usize = 9;
+
+// The digit 0.
+const ZERO: u64 = 48;
 
 // Where the three stand, and the number that ULI and date write one after the other.
 pub(crate) struct Found {
@@ -49,7 +58,7 @@ fn number_on(file: &[u8], at: usize, n: usize, before: u64) -> u64
         if b'9' < b {
             return NO_NUMBER;
         }
-        number = number * 10 + (value(b) - 48);
+        number = number * 10 + (value(b) - ZERO);
         j += 1;
     }
     if file[at + n] != b'|' {
@@ -63,7 +72,7 @@ pub(crate) fn find(file: &[u8], at: usize) -> Found
     ensures { λ r. ⌜ (r .number ≡ noNumber) ⊎ FoundIs (now (file .entry)) at (r .number) (r .uli) (r .date) (r .vaccine) ⌝ }
 {
     let uli = lines_fields::start_at(file, at, 2);
-    let first = number_on(file, uli, 9, 0);
+    let first = number_on(file, uli, Key::ULI, 0);
     if MOST_ULI < first {
         return Found {
             number: NO_NUMBER,
@@ -72,8 +81,8 @@ pub(crate) fn find(file: &[u8], at: usize) -> Found
             vaccine: 0,
         };
     }
-    let date = lines_fields::start_at(file, uli + 10, 2);
-    let number = number_on(file, date, 8, first);
+    let date = lines_fields::start_at(file, uli + ULI_AND_PIPE, 2);
+    let number = number_on(file, date, Key::DATE, first);
     if MOST_NUMBER < number {
         return Found {
             number: NO_NUMBER,
@@ -82,7 +91,7 @@ pub(crate) fn find(file: &[u8], at: usize) -> Found
             vaccine: 0,
         };
     }
-    let vaccine = lines_fields::start_at(file, date + 9, 1);
+    let vaccine = lines_fields::start_at(file, date + DATE_AND_PIPE, 1);
     Found {
         number,
         uli,
