@@ -1,12 +1,12 @@
--- `lines::faults::is_printable` meets its contract.
+-- `lines::bytes::is_printable` meets its contract.
 -- Assumes nothing.
-use Rattle.lines.proofs.FaultNeeds.{for-is-printable, printIn}
+use Rattle.lines.proofs.ByteNeeds.{for-is-printable, printIn}
 use Prim.Native.Nat.{_-_}
 use mathlib.Core.Path.{_≡_}
 use lib.ListN.{length, drop}
 use Rattle.lines.specs.Shape.{printable}
-use Rattle.lines.proofs.faults.is_printable.Statement.{statement}
-use Rattle.lines.proofs.faults.is_printable.Tie as tie
+use Rattle.lines.proofs.bytes.is_printable.Statement.{statement}
+use Rattle.lines.proofs.bytes.is_printable.Tie as tie
 
 abbrev Inv-loop : tie.InvT-loop
 Inv-loop text low₀ high₀ i₀ low high i = printable text ≡ printIn low high (drop i text)
