@@ -3,12 +3,12 @@
 use mathlib.Core.Path.{_≡_, refl, sym, ap, _∙_}
 use mathlib.Core.Bool.{Bool, true, false, cond, _&&_}
 use mathlib.Core.List.{List, [], _∷_, _++_}
-use Prim.Native.Nat.{ℕ, _-_, _≤_, _<_}
+use Prim.Native.Nat.{ℕ, _-_, _*_, _≤_, _<_}
 use native.Mathlib.Omega.{arith}
 use borrow.Author.Needs.{needs}
 use borrow.Author.Tests.{leb-true, le-leb, lt-leb}
 use lib.Dec.{leb}
-use lib.ListN.{length, take, drop}
+use lib.ListN.{length, take, drop, replicate, length-replicate}
 use lib.Seq.{take-all}
 use Rattle.house.specs.Text.{Text, howMany}
 use Rattle.house.proofs.Small.{both, clash}
@@ -23,6 +23,7 @@ use Rattle.rules_definitions.proofs.AreaLaws.{area-again}
 use Rattle.rules_walk.specs.declared.Built.{Built}
 use Rattle.rules_walk.specs.declared.Built.the-variants.{Blocks, TooMany as NotBuilt}
 use Rattle.rules_walk.specs.Firsts.{firstsOf, indexOf, over, canBuild, builtIn, canSortFront, frontOf, frontIn}
+use Rattle.rules_walk.specs.Repeats.{repeatsIn, noteAll}
 use Rattle.rules_walk.proofs.IndexNeeds.{can-same, not-built, index-apart, index-built, index-front}
 use Rattle.rules.specs.declared.By.{By}
 use Rattle.rules.specs.declared.Walked.{Walked}
@@ -30,8 +31,8 @@ use Rattle.rules.specs.declared.Judged.{Judged}
 use Rattle.rules.specs.declared.Judged.the-variants.{Done, TooMany}
 use Rattle.rules.specs.Look.{settingBy}
 use Rattle.rules.specs.Under.{findingsUnder}
-use Rattle.rules.specs.Judged.{findingsBy, judgedOf, judgedArea, FoundIs, WalkIs, Judging, Sorting}
-use Rattle.rules.proofs.UnderLaws.{under-index, under-none, under-fewer}
+use Rattle.rules.specs.Judged.{findingsBy, judgedOf, judgedArea, WalkIs, AgainIs, Judging, Sorting}
+use Rattle.rules.proofs.UnderLaws.{under-noted, under-none, under-fewer}
 
 -- the index is in order, or not
 module _ (file : Text) (area : List ℕ) (n : ℕ) (r : Built) (e : r ≡ frontOf file area n) where
@@ -110,13 +111,12 @@ module _ (file book : Text) (by : By) (ledger : Text) (room : List ℕ) (area : 
           let u : findingsUnder S file [] ≡ findingsOf S file = under-none S file (sym apart ∙ t) in
           done (w .findings) after (g .found-is .count-is ∙ ap length u) (g .found-is .area-is ∙ ap (areaAfter area) u)
 
-      again : (findings : ℕ) (last : Text) → FoundIs S file (take n index) after findings last
+      again : (findings : ℕ) (last : Text) → AgainIs S file (take n index) after findings last
           → Judging file book by ledger room area (Done n findings (w .«not_immunized»)) index last
       again findings last a =
           let f : take n index ≡ indexOf file = rw (n-is, index-is) (index-front file room short (w .blocks) (g .blocks-are) new (g .firsts-are) can (few .0) (few .1)) in
-          let u : findingsUnder S file (take n index) ≡ findingsOf S file = under-index S file (take n index) f in
-          done findings last (a .count-is ∙ ap length u)
-          (a .area-is ∙ rw (u, g .found-is .area-is) (area-again area (findingsUnder S file []) (findingsOf S file) (under-fewer S file)))
+          let o = a .own-is f in
+          done findings last (o .0) (o .1 ∙ rw (g .found-is .area-is) (area-again area (findingsUnder S file []) (findingsOf S file) (under-fewer S file)))
 
 -- judge_sorted
 module _ (file book : Text) (by : By) (ledger : Text) (short : length file ≤ 5000000) (w : Walked) (left : Text) (new : List ℕ) (b : Built) (e : b ≡ frontOf file new (w .blocks)) (index : List ℕ)
@@ -128,7 +128,7 @@ module _ (file book : Text) (by : By) (ledger : Text) (short : length file ≤ 5
     pub sorted-once : d ≡ true → Sorting file book by ledger w new left (Done n (w .findings) (w .«not_immunized»)) index left
     sorted-once t = record { judging = λ room area g. once file book by ledger room area short w left new g b e index i n d z t }
 
-    pub sorted-again : (findings : ℕ) (last : Text) → FoundIs (settingBy (by .today) book (by .sections) (foundIn ledger (by .live))) file (take n index) left findings last
+    pub sorted-again : (findings : ℕ) (last : Text) → AgainIs (settingBy (by .today) book (by .sections) (foundIn ledger (by .live))) file (take n index) left findings last
         → Sorting file book by ledger w new left (Done n findings (w .«not_immunized»)) index last
     sorted-again findings last a = record { judging = λ room area g. again file book by ledger room area short w left new g b e index i n d z findings last a }
 
@@ -142,15 +142,43 @@ file-judged file book by ledger w room new area left r index after g s = s .judg
 
 pub ruleset for-judge-file = (needs, file-judged)
 
+-- front
+pub front-all : (places : List ℕ) (n : ℕ) → length places ≤ n → places ≡ take n places
+front-all places n h = sym (take-all n places h)
+
+pub front-part : (places : List ℕ) (n : ℕ) → take (n - 0) places ≡ take n places
+front-part places n = let e : n - 0 ≡ n = omega arith in ap (λ (k : ℕ). take k places) e
+
+pub ruleset for-front = (needs, front-all, front-part)
+
+-- walk_noted
+pub noted-again : (s : Setting) (file : Text) (index : List ℕ) (clear table area : Text) (old : List ℕ) (r : Walked) (after : Text) (new : List ℕ) → clear ≡ replicate (length clear) 0
+    → length file ≤ 16 * length clear → table ≡ noteAll (repeatsIn file index) clear → WalkIs s file table area old r after new
+    → AgainIs s file index area (r .findings) after
+noted-again s file index clear table area old r after new c h t w =
+    record {
+      own-is = λ e.
+          let u : findingsUnder s file table ≡ findingsOf s file = ap (findingsUnder s file) t ∙ under-noted s file index clear c h e in
+          (w .found-is .count-is ∙ ap length u, w .found-is .area-is ∙ ap (areaAfter area) u);
+    }
+
+pub ruleset for-walk-noted = (needs, noted-again)
+
+-- walk_short, walk_long: a table that was just made
+pub table-clear : (n : ℕ) → replicate {A = ℕ} n 0 ≡ replicate {A = ℕ} (length (replicate {A = ℕ} n 0)) 0
+table-clear n = ap (λ (k : ℕ). replicate {A = ℕ} k 0) (sym (length-replicate {A = ℕ} n 0))
+
+pub table-long : (file : Text) (n : ℕ) → length file ≤ 16 * n → length file ≤ 16 * length (replicate {A = ℕ} n 0)
+table-long file n h = omega (arith, length-replicate {A = ℕ} n 0)
+
+pub ruleset for-walk-table = (needs, table-clear, table-long)
+
 -- walk_by
-module _ (s : Setting) (file : Text) (places : List ℕ) (n : ℕ) (area : Text) (old : List ℕ) (r : Walked) (after : Text) (new : List ℕ) where
-  pub by-all : length places ≤ n → WalkIs s file places area old r after new → FoundIs s file (take n places) area (r .findings) after
-  by-all h w = rw (take-all n places h) (w .found-is)
+pub by-front : (s : Setting) (file : Text) (places index : List ℕ) (n : ℕ) (area : Text) (r : ℕ) (after : Text) → index ≡ take n places → AgainIs s file index area r after
+    → AgainIs s file (take n places) area r after
+by-front s file places index n area r after e a = rw e at a
 
-  pub by-front : WalkIs s file (take (n - 0) places) area old r after new → FoundIs s file (take n places) area (r .findings) after
-  by-front w = let e : n - 0 ≡ n = omega arith in rw e at (w .found-is)
-
-pub ruleset for-walk-by = (needs, by-all, by-front)
+pub ruleset for-walk-by = (needs, by-front)
 
 -- judge
 module _ (today : ℕ) (file book : Text) (q : Sections) (ledger : Text) (live : ℕ) (room : List ℕ) (area : Text) where

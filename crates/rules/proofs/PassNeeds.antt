@@ -24,13 +24,13 @@ use Rattle.rules.proofs.TurnNeeds.{turn-numbers, turn-findings, turn-re
 use Rattle.rules.proofs.GatherNeeds.{Gathering, gather-start, gather-at, gather-blocks, gather-in, gather-room, gather-size, gather-is, gather-falls, gather-other, gather-first}
 
 -- walk: at a line, before it is read
-module _ (s : Setting) (file : Text) (index : List ℕ) (area₀ : Text) (old : List ℕ) (at : ℕ) (st : State) (found : ℕ) (area : Text) (firsts : List ℕ) (n : ℕ)
-    (g : Gathering s file index area₀ old at st found area firsts n) (m : List ℕ) (r : length m ≡ 30) (short : length file ≤ 5000000) (l : at < length file) where
+module _ (s : Setting) (file table area₀ : Text) (old : List ℕ) (at : ℕ) (st : State) (found : ℕ) (area : Text) (firsts : List ℕ) (n : ℕ)
+    (g : Gathering s file table area₀ old at st found area firsts n) (m : List ℕ) (r : length m ≡ 30) (short : length file ≤ 5000000) (l : at < length file) where
   abbrev now : Turn
   now = record { at = at; st = st; count = found; first = false }
 
   come : TurnAt file m now
-  come = gather-at s file index area₀ old at st found area firsts n g m false r short l
+  come = gather-at s file table area₀ old at st found area firsts n g m false r short l
 
   pub walk-looks : LookAt file m at st
   walk-looks = come .looks
@@ -47,9 +47,9 @@ module _ (s : Setting) (file : Text) (index : List ℕ) (area₀ : Text) (old : 
     walk-read = turn-read file m now come m2 e
 
 -- once it is read and judged
-module _ (file book ledger : Text) (by : By) (index : List ℕ) (area₀ : Text) (old : List ℕ) (at : ℕ) (st : State) (found : ℕ) (area : Text) (firsts : List ℕ) (n : ℕ)
-    (g : Gathering (settingBy (by .today) book (by .sections) (foundIn ledger (by .live))) file index area₀ old at st found area firsts n) (m : List ℕ) (r : length m ≡ 30)
-    (short : length file ≤ 5000000) (l : at < length file) (m2 : List ℕ) (e : m2 ≡ marksAt file at) (y : Here) (i : HereIs file at st index ledger (by .live) y)
+module _ (file book ledger : Text) (by : By) (table area₀ : Text) (old : List ℕ) (at : ℕ) (st : State) (found : ℕ) (area : Text) (firsts : List ℕ) (n : ℕ)
+    (g : Gathering (settingBy (by .today) book (by .sections) (foundIn ledger (by .live))) file table area₀ old at st found area firsts n) (m : List ℕ) (r : length m ≡ 30)
+    (short : length file ≤ 5000000) (l : at < length file) (m2 : List ℕ) (e : m2 ≡ marksAt file at) (y : Here) (i : HereIs file at st table ledger (by .live) y)
     (after : Text) (c : ℕ) (j : (s : Setting) (v : Seen) → Told file m2 y book by s v → kept c after ≡ keep (fieldsFindings s (y .n) v 1 (length (v .line .fields))) (kept found area))
     (k : c ≤ found + 84) (st2 : State) (z : st2 ≡ advanced file m2 st y) (f : Bool) (b : f ≡ y .facts .inb && not (y .facts .joined)) where
   abbrev S : Setting
@@ -61,19 +61,19 @@ module _ (file book ledger : Text) (by : By) (index : List ℕ) (area₀ : Text)
   abbrev next : Turn
   next = record { at = y .next; st = st2; count = c; first = f }
 
-  turned : TurnIs S file index was area next after
-  turned = turned-is file m was (gather-at S file index area₀ old at st found area firsts n g m false r short l) m2 e index ledger by y i book area after c st2 f j k z b
+  turned : TurnIs S file table was area next after
+  turned = turned-is file m was (gather-at S file table area₀ old at st found area firsts n g m false r short l) m2 e table ledger by y i book area after c st2 f j k z b
 
   pub walk-falls : length file - y .next < length file - at
-  walk-falls = gather-falls S file index area₀ old at st found area firsts n g l false next after turned
+  walk-falls = gather-falls S file table area₀ old at st found area firsts n g l false next after turned
 
   module _ (size : length after ≡ length area) where
-    pub walk-other : f ≡ false → Gathering (settingBy (by .today) book (by .sections) (foundIn ledger (by .live))) file index area₀ old (y .next) st2 c after firsts n
-    walk-other h = gather-other S file index area₀ old at st found area firsts n g l false next after turned size h
+    pub walk-other : f ≡ false → Gathering (settingBy (by .today) book (by .sections) (foundIn ledger (by .live))) file table area₀ old (y .next) st2 c after firsts n
+    walk-other h = gather-other S file table area₀ old at st found area firsts n g l false next after turned size h
 
     pub walk-first : (new : List ℕ) → f ≡ true → new ≡ set firsts n at
-        → Gathering (settingBy (by .today) book (by .sections) (foundIn ledger (by .live))) file index area₀ old (y .next) st2 c after new (n + 1)
-    walk-first new h w = gather-first S file index area₀ old at st found area firsts n g l false next after turned size new h w
+        → Gathering (settingBy (by .today) book (by .sections) (foundIn ledger (by .live))) file table area₀ old (y .next) st2 c after new (n + 1)
+    walk-first new h w = gather-first S file table area₀ old at st found area firsts n g l false next after turned size new h w
 
 pub ruleset for-walk = (
   needs,

@@ -49,8 +49,8 @@ module _ (f : Facts) where
 pub ruleset for-begins = (needs, begins-not, begins-joined, begins-first)
 
 -- one turn of the walk
-module _ (file : Text) (at : ℕ) (st : State) (h : Holds file at st) (less : at < length file) (index : List ℕ) (ledger : Text) (live : ℕ) (y : Here)
-    (i : HereIs file at st index ledger live y) where
+module _ (file : Text) (at : ℕ) (st : State) (h : Holds file at st) (less : at < length file) (table ledger : Text) (live : ℕ) (y : Here)
+    (i : HereIs file at st table ledger live y) where
   next-is : y .next ≡ at + lineLen (drop at file)
   unfolding hereWith
   next-is = ap (λ (z : Here). z .next) (i .exact)
@@ -63,27 +63,27 @@ module _ (file : Text) (at : ℕ) (st : State) (h : Holds file at st) (less : at
       ∙ ap (λ (n : ℕ). lineRec file at ∷ recs (drop n file)) (sym next-is)
 
   module _ (s : Setting) where
-    rest-step : restOf s file index at (st .n) ≡ lineFindingsBy s file index (here file at st h less index ledger live y i s) ++ restOf s file index (y .next) (st .n + 1)
+    rest-step : restOf s file table at (st .n) ≡ lineFindingsBy s file table (here file at st h less table ledger live y i s) ++ restOf s file table (y .next) (st .n + 1)
     unfolding restOf
-    rest-step = rw (rest-on, seen.step file at st h less index ledger live y i, add-one)
+    rest-step = rw (rest-on, seen.step file at st h less table ledger live y i, add-one)
 
-    its-findings : lineFindingsBy s file index (here file at st h less index ledger live y i s)
-        ≡ fieldsFindings s (st .n) (view file at st h less index ledger live y i s) 1 (length (view file at st h less index ledger live y i s .line .fields))
+    its-findings : lineFindingsBy s file table (here file at st h less table ledger live y i s)
+        ≡ fieldsFindings s (st .n) (view file at st h less table ledger live y i s) 1 (length (view file at st h less table ledger live y i s .line .fields))
     unfolding lineFindingsBy withRepeated seenAt
     its-findings = refl
 
     abbrev its : Seen
-    its = view file at st h less index ledger live y i s
+    its = view file at st h less table ledger live y i s
 
     renumbered : fieldsFindings s (st .n) its 1 (length (its .line .fields)) ≡ fieldsFindings s (y .n) its 1 (length (its .line .fields))
-    renumbered = ap (λ (n : ℕ). fieldsFindings s n its 1 (length (its .line .fields))) (sym (number-is file at st h less index ledger live y i s))
+    renumbered = ap (λ (n : ℕ). fieldsFindings s n its 1 (length (its .line .fields))) (sym (number-is file at st h less table ledger live y i s))
 
     abbrev left : List Finding
-    left = restOf s file index (y .next) (st .n + 1)
+    left = restOf s file table (y .next) (st .n + 1)
 
     pub turn-left : (c d : ℕ) (a z : Text)
-        → kept d z ≡ keep (fieldsFindings s (y .n) (view file at st h less index ledger live y i s) 1 (length (view file at st h less index ledger live y i s .line .fields))) (kept c a)
-        → keep (restOf s file index at (st .n)) (kept c a) ≡ keep (restOf s file index (y .next) (st .n + 1)) (kept d z)
+        → kept d z ≡ keep (fieldsFindings s (y .n) (view file at st h less table ledger live y i s) 1 (length (view file at st h less table ledger live y i s .line .fields))) (kept c a)
+        → keep (restOf s file table at (st .n)) (kept c a) ≡ keep (restOf s file table (y .next) (st .n + 1)) (kept d z)
     turn-left c d a z m =
         ap (λ (xs : List Finding). keep xs (kept c a)) (rest-step ∙ ap (λ (xs : List Finding). xs ++ left) (its-findings ∙ renumbered))
         ∙ keep-append (fieldsFindings s (y .n) its 1 (length (its .line .fields))) left (kept c a)
@@ -108,7 +108,7 @@ module _ (file : Text) (m₀ : List ℕ) (t : Turn) (g : TurnAt file m₀ t) whe
         let z : getD m 0 0 ≡ t .at = ap (λ (x : List ℕ). getD x 0 0) e ∙ seen.its-mark file (t .at) less in
         record { inside = omega (arith, z, less); marked = e ∙ ap (marksAt file) (sym z) }
 
-    module _ (index : List ℕ) (ledger : Text) (by : By) (y : Here) (i : HereIs file (t .at) (t .st) index ledger (by .live) y) (book : Text) where
+    module _ (table ledger : Text) (by : By) (y : Here) (i : HereIs file (t .at) (t .st) table ledger (by .live) y) (book : Text) where
       abbrev S : Setting
       S = settingBy (by .today) book (by .sections) (foundIn ledger (by .live))
 
@@ -123,19 +123,19 @@ module _ (file : Text) (m₀ : List ℕ) (t : Turn) (g : TurnAt file m₀ t) whe
       pub turned-is : (area after : Text) (c : ℕ) (st2 : State) (f : Bool)
           → ((s : Setting) (v : Seen) → Told file m y book by s v → kept c after ≡ keep (fieldsFindings s (y .n) v 1 (length (v .line .fields))) (kept (t .count) area))
           → c ≤ t .count + 84 → st2 ≡ advanced file m (t .st) y → f ≡ y .facts .inb && not (y .facts .joined)
-          → TurnIs (settingBy (by .today) book (by .sections) (foundIn ledger (by .live))) file index t area (record { at = y .next; st = st2; count = c; first = f }) after
+          → TurnIs (settingBy (by .today) book (by .sections) (foundIn ledger (by .live))) file table t area (record { at = y .next; st = st2; count = c; first = f }) after
       unfolding advanced
       turned-is area after c st2 f j k z b =
           record {
-            holds = rw (z, e) (holds-step file (t .at) (t .st) h less index ledger (by .live) y i);
-            next-is = next-is file (t .at) (t .st) h less index ledger (by .live) y i;
-            on = seen.on file (t .at) (t .st) h less index ledger (by .live) y i;
-            upto = seen.upto file (t .at) (t .st) h less index ledger (by .live) y i;
-            few = omega (arith, g .few, seen.on file (t .at) (t .st) h less index ledger (by .live) y i);
+            holds = rw (z, e) (holds-step file (t .at) (t .st) h less table ledger (by .live) y i);
+            next-is = next-is file (t .at) (t .st) h less table ledger (by .live) y i;
+            on = seen.on file (t .at) (t .st) h less table ledger (by .live) y i;
+            upto = seen.upto file (t .at) (t .st) h less table ledger (by .live) y i;
+            few = omega (arith, g .few, seen.on file (t .at) (t .st) h less table ledger (by .live) y i);
             left =
                 rw z
-                (turn-left file (t .at) (t .st) h less index ledger (by .live) y i S (t .count) c area after
-                (rw e at (j S (view file (t .at) (t .st) h less index ledger (by .live) y i S)) (told file (t .at) (t .st) h less index ledger (by .live) y i S book by looks lives)));
-            first-is = seen.begins-is file (t .at) (t .st) h less index ledger (by .live) y i f b;
-            before-is = sym (seen.step file (t .at) (t .st) h less index ledger (by .live) y i);
+                (turn-left file (t .at) (t .st) h less table ledger (by .live) y i S (t .count) c area after
+                (rw e at (j S (view file (t .at) (t .st) h less table ledger (by .live) y i S)) (told file (t .at) (t .st) h less table ledger (by .live) y i S book by looks lives)));
+            first-is = seen.begins-is file (t .at) (t .st) h less table ledger (by .live) y i f b;
+            before-is = sym (seen.step file (t .at) (t .st) h less table ledger (by .live) y i);
           }

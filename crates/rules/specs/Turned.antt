@@ -29,17 +29,17 @@ pub record TurnAt (file : Text) (m : List ℕ) (t : Turn) : Type 0 where
   pub looks : LookAt file m (t .at) (t .st)
   pub few : t .count ≤ 84 * t .at
 
--- the findings of the lines from a position on, the first of them line n, rule 15 by what an index says
-unfoldable pub restOf : Setting → Text → List ℕ → ℕ → ℕ → List Finding
-restOf s file index at n = joined (lineFindingsBy s file index) (contextsFrom n (linesBefore file at) (recs (drop at file)))
+-- the findings of the lines from a position on, the first of them line n, rule 15 by a table
+unfoldable pub restOf : Setting → Text → Text → ℕ → ℕ → List Finding
+restOf s file table at n = joined (lineFindingsBy s file table) (contextsFrom n (linesBefore file at) (recs (drop at file)))
 
 -- one turn of the walk: a line's findings are put to the others, and those from the next line on are left
-pub record TurnIs (s : Setting) (file : Text) (index : List ℕ) (t : Turn) (area : Text) (r : Turn) (after : Text) : Type 0 where
+pub record TurnIs (s : Setting) (file table : Text) (t : Turn) (area : Text) (r : Turn) (after : Text) : Type 0 where
   pub holds : Holds file (r .at) (r .st)
   pub next-is : r .at ≡ t .at + lineLen (drop (t .at) file)
   pub on : t .at < r .at
   pub upto : r .at ≤ length file
   pub few : r .count ≤ 84 * r .at
-  pub left : keep (restOf s file index (t .at) (t .st .n)) (kept (t .count) area) ≡ keep (restOf s file index (r .at) (r .st .n)) (kept (r .count) after)
+  pub left : keep (restOf s file table (t .at) (t .st .n)) (kept (t .count) area) ≡ keep (restOf s file table (r .at) (r .st .n)) (kept (r .count) after)
   pub first-is : r .first ≡ begins (lineRec file (t .at)) (linesBefore file (t .at))
   pub before-is : lineRec file (t .at) ∷ linesBefore file (t .at) ≡ linesBefore file (r .at)

@@ -13,12 +13,19 @@ use rules_walk::Built;
 use rules_walk::MOST_BYTES;
 ghost use mathlib.Core.Path.{_≡_};
 ghost use mathlib.Core.Bool.{not, _&&_};
-ghost use Prim.Native.Nat.{_≤_};
-ghost use lib.ListN.{length, take};
+ghost use Prim.Native.Nat.{_*_, _≤_};
+ghost use lib.ListN.{length, take, replicate};
 ghost use Rattle.ledger.specs.Ledger.{foundIn};
 ghost use Rattle.rules_walk.specs.Firsts.{fileMost, builtIn};
 ghost use Rattle.rules.specs.Look.{settingBy};
-ghost use Rattle.rules.specs.Judged.{judgedOf, judgedArea, FoundIs, WalkIs, Judging, Sorting};
+ghost use Rattle.rules.specs.Judged.{shortFile, judgedOf, judgedArea, WalkIs, AgainIs, Judging, Sorting};
+
+// A short file, and the tables by position: sixteen bytes of a file have an entry.
+const SHORT_FILE: usize = 65536;
+
+const SHORT_TABLE: usize = 4096;
+
+const LONG_TABLE: usize = 312500;
 
 // Whether a line begins a block.
 fn begins(facts: Facts) -> bool
@@ -31,11 +38,11 @@ fn begins(facts: Facts) -> bool
     }
 }
 
-// Every line of a file, events named before being looked up in an index: its findings counted, and those that fit written; and where each
-// block's first II line starts is written to the front of an area, as many as fit.
+// Every line of a file, a block being one whose event is named before if a table notes its start: the findings counted, and those that fit
+// written; and where each block's first II line starts is written to the front of an area, as many as fit.
 fn walk(
     file: &[u8],
-    index: &[u32],
+    table: &[u8],
     ledger: &[u8],
     book: &[u8],
     by: By,
@@ -44,7 +51,7 @@ fn walk(
 ) -> Walked
     requires { ⌜ length (now file) ≤ fileMost ⌝ }
     ensures { λ r. ⌜ WalkIs (settingBy (by .today) (now (book .entry)) (by .sections) (foundIn (now (ledger .entry)) (by .live)))
-        (now (file .entry)) (now (index .entry)) (now (area .entry)) (now (firsts .entry)) r (now (area .exit)) (now (firsts .exit)) ⌝ }
+        (now (file .entry)) (now (table .entry)) (now (area .entry)) (now (firsts .entry)) r (now (area .exit)) (now (firsts .exit)) ⌝ }
 {
     let mut marks = [0u32; MARKS];
     let mut st = start();
@@ -52,7 +59,7 @@ fn walk(
     let mut findings = 0;
     let mut blocks: usize = 0;
     while at < file.len() {
-        let here = look(file, &mut marks, at, st, index, ledger, by.live);
+        let here = look(file, &mut marks, at, st, table, ledger, by.live);
         findings = judge_line(file, &marks, here, book, by, area, findings);
         st = advance(file, &marks, st, here);
         let first = at as u32;
@@ -71,8 +78,73 @@ fn walk(
     }
 }
 
-// How many findings a file has, events named before being looked up in the first n places of an area, or in all where there are fewer; those
-// that fit are written.
+// The first n places, or all where there are fewer.
+fn front(places: &[u32], n: usize) -> &[u32]
+    ensures { λ r. ⌜ now r ≡ take n (now (places .entry)) ⌝ }
+{
+    if places.len() <= n {
+        return places;
+    }
+    let from = 0;
+    &places[from..n]
+}
+
+// How many findings a file has, the blocks that repeat an event being noted by its index in a table that is clear; those that fit are written.
+fn walk_noted(
+    file: &[u8],
+    index: &[u32],
+    table: &mut [u8],
+    ledger: &[u8],
+    book: &[u8],
+    by: By,
+    area: &mut [u8],
+) -> usize
+    requires { ⌜ length (now file) ≤ fileMost ⌝ }
+    requires { ⌜ now table ≡ replicate (length (now table)) 0 ⌝ }
+    requires { ⌜ length (now file) ≤ 16 * length (now table) ⌝ }
+    ensures { λ r. ⌜ AgainIs (settingBy (by .today) (now (book .entry)) (by .sections) (foundIn (now (ledger .entry)) (by .live)))
+        (now (file .entry)) (now (index .entry)) (now (area .entry)) r (now (area .exit)) ⌝ }
+{
+    rules_walk::note_repeats(file, index, table);
+    let mut none = [0u32; 0];
+    walk(file, table, ledger, book, by, &mut none, area).findings
+}
+
+// The same of a short file: the less table there is, the less is to be cleared.
+fn walk_short(
+    file: &[u8],
+    index: &[u32],
+    ledger: &[u8],
+    book: &[u8],
+    by: By,
+    area: &mut [u8],
+) -> usize
+    requires { ⌜ length (now file) ≤ shortFile ⌝ }
+    ensures { λ r. ⌜ AgainIs (settingBy (by .today) (now (book .entry)) (by .sections) (foundIn (now (ledger .entry)) (by .live)))
+        (now (file .entry)) (now (index .entry)) (now (area .entry)) r (now (area .exit)) ⌝ }
+{
+    let mut table = [0u8; SHORT_TABLE];
+    walk_noted(file, index, &mut table, ledger, book, by, area)
+}
+
+// The same of a file as long as can be judged.
+fn walk_long(
+    file: &[u8],
+    index: &[u32],
+    ledger: &[u8],
+    book: &[u8],
+    by: By,
+    area: &mut [u8],
+) -> usize
+    requires { ⌜ length (now file) ≤ fileMost ⌝ }
+    ensures { λ r. ⌜ AgainIs (settingBy (by .today) (now (book .entry)) (by .sections) (foundIn (now (ledger .entry)) (by .live)))
+        (now (file .entry)) (now (index .entry)) (now (area .entry)) r (now (area .exit)) ⌝ }
+{
+    let mut table = [0u8; LONG_TABLE];
+    walk_noted(file, index, &mut table, ledger, book, by, area)
+}
+
+// The same by the first n places of an area, or by all where there are fewer.
 fn walk_by(
     file: &[u8],
     places: &[u32],
@@ -83,15 +155,14 @@ fn walk_by(
     area: &mut [u8],
 ) -> usize
     requires { ⌜ length (now file) ≤ fileMost ⌝ }
-    ensures { λ r. ⌜ FoundIs (settingBy (by .today) (now (book .entry)) (by .sections) (foundIn (now (ledger .entry)) (by .live)))
+    ensures { λ r. ⌜ AgainIs (settingBy (by .today) (now (book .entry)) (by .sections) (foundIn (now (ledger .entry)) (by .live)))
         (now (file .entry)) (take n (now (places .entry))) (now (area .entry)) r (now (area .exit)) ⌝ }
 {
-    let mut none = [0u32; 0];
-    if places.len() <= n {
-        return walk(file, places, ledger, book, by, &mut none, area).findings;
+    let index = front(places, n);
+    if file.len() <= SHORT_FILE {
+        return walk_short(file, index, ledger, book, by, area);
     }
-    let from = 0;
-    walk(file, &places[from..n], ledger, book, by, &mut none, area).findings
+    walk_long(file, index, ledger, book, by, area)
 }
 
 // Puts the places of the blocks that a walk gathered in order; where two of them name one event, the walk is made again by that index.
@@ -144,7 +215,7 @@ fn judge_file(
     ensures { λ r. ⌜ Judging (now (file .entry)) (now (book .entry)) by (now (ledger .entry))
         (now (room .entry)) (now (area .entry)) r (now (room .exit)) (now (area .exit)) ⌝ }
 {
-    let none = [0u32; 0];
+    let none = [0u8; 0];
     let w = walk(file, &none, ledger, book, by, room, area);
     judge_sorted(file, w, book, by, ledger, room, area)
 }

@@ -11,10 +11,10 @@ use Rattle.rules.proofs.pass.walk.Statement.{statement}
 use Rattle.rules.proofs.pass.walk.Tie as tie
 
 abbrev Inv-loop : tie.InvT-loop
-Inv-loop file index ledger book by firsts₀ area₀ marks₀ st₀ at₀ findings₀ blocks₀ firsts area marks st at findings blocks = (length marks ≡ 30) × Gathering (settingBy (by .today) book (by .sections) (foundIn ledger (by .live))) file index area₀ firsts₀ at st findings area firsts blocks
+Inv-loop file table ledger book by firsts₀ area₀ marks₀ st₀ at₀ findings₀ blocks₀ firsts area marks st at findings blocks = (length marks ≡ 30) × Gathering (settingBy (by .today) book (by .sections) (foundIn ledger (by .live))) file table area₀ firsts₀ at st findings area firsts blocks
 
 abbrev μ-loop : tie.MeasureT-loop
-μ-loop file index ledger book by firsts₀ area₀ marks₀ st₀ at₀ findings₀ blocks₀ firsts area marks st at findings blocks = length file - at
+μ-loop file table ledger book by firsts₀ area₀ marks₀ st₀ at₀ findings₀ blocks₀ firsts area marks st at findings blocks = length file - at
 
 pub walk-spec : {M : Type 1} → statement M
 walk-spec =
