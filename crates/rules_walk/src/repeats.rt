@@ -1,6 +1,6 @@
 // The places of an index whose event the place just before names, noted in a table by position: no line is looked up again.
-use crate::line::wide;
 use house::Key;
+use house::wide;
 ghost use mathlib.Core.Path.{_≡_};
 ghost use mathlib.Core.Bool.{cond};
 ghost use Rattle.house.specs.Text.{same};
