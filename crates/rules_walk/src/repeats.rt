@@ -37,20 +37,13 @@ fn note_if(table: &mut [u8], p: u32, again: bool)
     }
 }
 
-// Whether two keys are of one event.
-fn is_same(a: [u8; Key::WIDTH], b: [u8; Key::WIDTH]) -> bool
-    ensures { λ r. ⌜ r ≡ same a b ⌝ }
-{
-    house::same(&a, &b)
-}
-
 // Notes a place in a table if its event is the one before it; its event.
 fn note_again(file: &[u8], p: u32, last: [u8; Key::WIDTH], table: &mut [u8]) -> [u8; Key::WIDTH]
     ensures { λ r. ⌜ r ≡ eventAt (now (file .entry)) p ⌝ }
     ensures { λ r. ⌜ now (table .exit) ≡ cond (same last r) (noteAt (now (table .entry)) p) (now (table .entry)) ⌝ }
 {
     let key = lines_places::key_at(file, wide(p));
-    note_if(table, p, is_same(last, key));
+    note_if(table, p, house::same(&last, &key));
     key
 }
 

@@ -13,4 +13,6 @@ note-again-spec =
     (λ c. search for-note-again)
     (λ c. search for-note-again)
     (λ c. search for-note-again)
+    (λ c. search for-note-again)
+    (λ c. search for-note-again)
     (λ c. search for-note-again))
