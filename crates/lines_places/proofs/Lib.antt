@@ -2,7 +2,6 @@ pub mod Ranks
 pub mod Order
 pub mod EventLaws
 pub mod KeyLaws
-pub mod AlikeNeeds
 pub mod PackLaws
 pub mod RankLaws
 pub mod TieLaws
