@@ -5,7 +5,7 @@
  *
  * Every input gets an answer: nothing that the caller says of file, book, ledger or date is trusted.
  *
- * STACK. A call takes up to 2.5 MB of the caller's stack. Give a thread that calls it at least 4 MiB.
+ * STACK. A call takes up to 3.5 MB of the caller's stack. Give a thread that calls it at least 4 MiB.
  *
  * EXAMPLE
  *

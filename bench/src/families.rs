@@ -88,6 +88,18 @@ pub fn all() -> Vec<Family> {
             "two to five events a patient, one to three lots each",
         ),
         usual(
+            "flu clinic, whole records",
+            ACCEPTED,
+            whole_flu_clinic,
+            "as the flu clinic, with names, addresses and who gave it",
+        ),
+        usual(
+            "travel clinic, whole records",
+            ACCEPTED,
+            whole_travel_clinic,
+            "as the travel clinic, with the same",
+        ),
+        usual(
             "changes and deletes",
             ACCEPTED,
             changes_and_deletes,

@@ -21,7 +21,7 @@ use table::Row;
 const USAGE: &str =
     "bench [--quick] [--only WORD] [--limit SECONDS] [--date DATE] [--product NAME]";
 
-/// The product's check needs about 2.5 MB of stack.
+/// The product's check needs about 3.5 MB of stack.
 const STACK: usize = 16 << 20;
 
 struct Plan {

@@ -81,12 +81,29 @@ impl Submission {
         self.text += &format!("IP|{number}|{uli}|||||{name}|||||||||||||||||{birth}|||\n");
     }
 
+    /// An IP with these texts in fields 8 to 21: who the patient is and lives where.
+    pub fn whole_patient(&mut self, uli: &str, who: &[String; 14], birth: u32) {
+        let place = self.next();
+        let who = who.join("|");
+        self.text += &format!("IP|{place}|{uli}|||||{who}||||{birth}|||\n");
+    }
+
     pub fn immunization(&mut self, dose: &Dose) {
         self.immunization_with(dose, "");
     }
 
     /// The same, with this text in field 7.
     pub fn immunization_with(&mut self, dose: &Dose, seventh: &str) {
+        self.write_immunization(dose, seventh, "||||||");
+    }
+
+    /// The same, with who gave it and where.
+    pub fn whole_immunization(&mut self, dose: &Dose) {
+        self.write_immunization(dose, "", "0001234|NURSE A SMITH||||10|");
+    }
+
+    /// With these texts in field 7 and in fields 16 to 22.
+    fn write_immunization(&mut self, dose: &Dose, seventh: &str, last: &str) {
         let place = self.next();
         let Dose {
             uli,
@@ -102,7 +119,7 @@ impl Submission {
             lot,
         } = dose;
         self.text += &format!(
-            "II|{place}|{uli}|{submission_type}||{date}|{seventh}|{vaccine}|{site}|{method}|{reason}|{dosage}|{dosage_type}|{manufacturer}|{lot}||||||||\n"
+            "II|{place}|{uli}|{submission_type}||{date}|{seventh}|{vaccine}|{site}|{method}|{reason}|{dosage}|{dosage_type}|{manufacturer}|{lot}|{last}|\n"
         );
     }
 

@@ -381,11 +381,11 @@ ALLOWED = {(k, f, r) for k in FORM for f in FORM[k] for r in {1, 2} | PLACED.get
 
 def said_of(case, found, blocks, declined):
     """What the program prints: the numbers, the findings that fit, and that the area's other bytes stay; where there are more blocks than
-    room, whether the area stays, which it does if no rule but rule 15 is broken."""
-    if len(blocks) > case.room:
-        return b"too-many \n" + (b"altered" if case.area >= 6 and any(r != 15 for _, _, r in found) else b"kept")
-    kept = found[:case.area // 6]
-    return b"done " + num(len(blocks)) + num(len(found)) + num(declined) + b"".join(b"\n%d %d %d " % place for place in kept) + b"\nkept"
+    room, no numbers, and the findings of all rules but 15."""
+    many = len(blocks) > case.room
+    due = [place for place in found if not many or place[2] != 15]
+    head = b"too-many " if many else b"done " + num(len(blocks)) + num(len(found)) + num(declined)
+    return head + b"".join(b"\n%d %d %d " % place for place in due[:case.area // 6]) + b"\nkept"
 
 
 def cases():

@@ -39,6 +39,81 @@ fn flu_clinic_of(world: &mut World, alter: fn(&mut Random, &mut Dose)) -> Vec<u8
     file.finish()
 }
 
+/// Names and addresses, as charting products send them.
+fn who(random: &mut Random, name: &str) -> [String; 14] {
+    let first = codes::one_of(
+        random,
+        &["JOHN", "AISHA", "NGOC ANH", "MARGARET", "CHRISTOPHER JAMES"],
+    );
+    let sex = codes::one_of(random, &["F", "M"]);
+    let street = codes::one_of(
+        random,
+        &[
+            "WHYTE AVENUE",
+            "17 AVENUE SW",
+            "JASPER AVENUE NW",
+            "GATEWAY BOULEVARD",
+        ],
+    );
+    let city = codes::one_of(
+        random,
+        &[
+            "CALGARY",
+            "EDMONTON",
+            "RED DEER",
+            "MEDICINE HAT",
+            "GRANDE PRAIRIE",
+        ],
+    );
+    let house = format!("{} {street}", random.between(1, 19_999));
+    let flat = format!("APT {}", random.between(1, 899));
+    let code = format!(
+        "T{}E {}K{}",
+        random.below(10),
+        random.below(10),
+        random.below(10)
+    );
+    let mut telephone = || format!("780{}", random.between(2_000_000, 9_999_999));
+    let (day, night) = (telephone(), telephone());
+    [
+        name, first, "A", "MRS", sex, &house, &flat, city, "AB", &code, "CAN", &day, &night, "8048",
+    ]
+    .map(str::to_string)
+}
+
+pub fn whole_flu_clinic(world: &mut World) -> Vec<u8> {
+    let mut file = Submission::new(world.size.file());
+    while file.fits() {
+        let uli = world.uli();
+        let (vaccine, dose) = world.new_dose(&uli);
+        let who = who(&mut world.random, "SMITH");
+        file.whole_patient(&uli, &who, world.birth());
+        file.whole_immunization(&dose);
+        file.antigen(&dose.uli, &world.vaccine(vaccine).antigens[0], "1");
+    }
+    file.finish()
+}
+
+pub fn whole_travel_clinic(world: &mut World) -> Vec<u8> {
+    let mut file = Submission::new(world.size.file());
+    while file.fits() {
+        let uli = world.uli();
+        let who = who(&mut world.random, "SMITH-JONES");
+        file.whole_patient(&uli, &who, world.birth());
+        for _ in 0..world.random.between(2, 5) {
+            let (vaccine, mut dose) = world.new_dose(&uli);
+            for lot in 1..=world.random.between(1, 3) {
+                dose.lot = format!("{}-{lot}", world.random.between(100, 999));
+                file.whole_immunization(&dose);
+                for antigen in &world.vaccine(vaccine).antigens {
+                    file.antigen(&dose.uli, antigen, "1");
+                }
+            }
+        }
+    }
+    file.finish()
+}
+
 fn break_a_rule(random: &mut Random, dose: &mut Dose) {
     match random.below(10) {
         0 => dose.site = "",

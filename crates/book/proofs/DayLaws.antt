@@ -1,4 +1,4 @@
--- In force: what each need of `digit`, `eight_digits`, `end_number`, `in_force` and `look_up` asks.
+-- In force: what each need of `digit`, `eight_digits`, `end_number`, `in_force`, `standing` and `look_up` asks.
 -- Assumes nothing.
 use mathlib.Core.Path.{_≡_, refl, sym, ap, _∙_}
 use mathlib.Core.Bool.{Bool, true, false, cond, _&&_}
@@ -11,18 +11,20 @@ use lib.Dec.{eqb, leb}
 use lib.ListN.{length, getD, take, drop, length-drop}
 use lib.Seq.{drop-drop, take-take, take-add, drop-append-seam, length-take-le}
 use Rattle.house.specs.Text.{Text, all, number}
-use Rattle.house.proofs.Suffix.{drop-here}
+use Rattle.house.proofs.Suffix.{drop-here, eight}
+use Rattle.book.specs.declared.Layout.{Layout}
 use Rattle.book.specs.declared.Position.{Position}
 use Rattle.book.specs.declared.Sections.{Sections}
 use Rattle.book.specs.declared.Found.{Found}
 use Rattle.book.specs.declared.Found.the-variants.{At, Absent}
 use Rattle.book.specs.declared.Standing.{Standing}
 use Rattle.book.specs.declared.Standing.the-variants.{Unknown, OutOfForce, InForce}
-use Rattle.book.specs.Book.{startWidth, codeWidth, bodyWidth, entryOf, datesOf, startOf, endOf, startedBy, inForce}
-use Rattle.book.specs.LookUp.{foundIn, knownBy, inForceBy, standingBy}
-use Rattle.book.specs.Inside.{isByte, Lies, FoundIs}
+use Rattle.book.specs.Book.{startWidth, codeWidth, bodyWidth, codeText, entryOf, datesOf, startOf, endOf, startedBy, inForce}
+use Rattle.book.specs.LookUp.{knownBy, inForceBy, standingBy}
+use Rattle.book.specs.Inside.{isByte, foundBy, saidBy, WidthsAre, LayoutIs, FoundIs}
 use Rattle.book.proofs.WidthLaws.{body-parts}
-use Rattle.book.proofs.CodeLaws.{eight, eight-nines}
+use Rattle.book.proofs.CodeLaws.{eight-nines}
+use Rattle.book.proofs.SearchLaws.{find-kind, find-widths, find-by}
 
 -- digit
 pub digit-none : (b : ℕ) → b < 48 → 0 ≡ b - 48
@@ -47,12 +49,12 @@ module _ (s : Text) (at : ℕ) (l : at + 8 ≤ length s) (r : Bool) (e : r ≡ a
 pub ruleset for-end-number = (needs, end-open)
 
 -- in_force
-module _ (s : Text) (k body : ℕ) (l : body + bodyWidth k ≤ length s) (c : ℕ) (ec : c ≡ codeWidth k) where
-  abbrev rests : Text
-  rests = drop (body + c) s
+module _ (s : Text) (k : ℕ) (w : Layout) (wide : WidthsAre k w) (at : ℕ) (l : at + w .entry ≤ length s) where
+  abbrev body : ℕ
+  body = at + 1
 
-  rest-long : startWidth k + 8 ≤ length rests
-  rest-long = omega (arith, length-drop (body + c) s, body-parts k)
+  abbrev rests : Text
+  rests = drop (body + codeWidth k) s
 
   -- some bytes after others
   after : (n m : ℕ) (t : Text) → n + m ≤ length t → drop n (take (n + m) t) ≡ take m (drop n t)
@@ -63,79 +65,99 @@ module _ (s : Text) (k body : ℕ) (l : body + bodyWidth k ≤ length s) (c : �
   dates-at : datesOf (entryOf k (drop body s)) ≡ take (startWidth k + 8) rests
   unfolding datesOf entryOf
   dates-at =
-      let e : bodyWidth k ≡ c + (startWidth k + 8) = omega (arith, body-parts k) in
-      rw (e, ← ec) (after c (startWidth k + 8) (drop body s) (omega (arith, length-drop body s)) ∙ rw (drop-drop c body s))
+      let e : bodyWidth k ≡ codeWidth k + (startWidth k + 8) = omega (arith, body-parts k) in
+      rw e (after (codeWidth k) (startWidth k + 8) (drop body s) (omega (arith, length-drop body s, body-parts k, wide .entry-is)) ∙ rw (drop-drop (codeWidth k) body s))
 
   start-at : startOf (entryOf k (drop body s)) ≡ take (startWidth k) rests
   unfolding startOf entryOf
   start-at = ap (take (startWidth k)) dates-at ∙ take-take (startWidth k) (startWidth k + 8) rests (omega arith)
 
-  end-at : endOf (entryOf k (drop body s)) ≡ take 8 (drop (body + c + startWidth k) s)
+  end-at : endOf (entryOf k (drop body s)) ≡ take 8 (drop (at + (w .entry - 8)) s)
   unfolding endOf entryOf
-  end-at = ap (drop (startWidth k)) dates-at ∙ after (startWidth k) 8 rests rest-long ∙ ap (take 8) (drop-drop (startWidth k) (body + c) s)
+  end-at =
+      let e : body + codeWidth k + startWidth k ≡ at + (w .entry - 8) = omega (arith, body-parts k, wide .entry-is) in
+      let r : startWidth k + 8 ≤ length rests = omega (arith, length-drop (body + codeWidth k) s, body-parts k, wide .entry-is) in
+      ap (drop (startWidth k)) dates-at ∙ after (startWidth k) 8 rests r ∙ ap (take 8) (drop-drop (startWidth k) (body + codeWidth k) s) ∙ ap (λ (j : ℕ). take 8 (drop j s)) e
 
-  pub force-room : length s < 18446744073709551616 → body + c < 18446744073709551616
-  force-room z = omega (arith, body-parts k)
+  pub force-wide : 8 ≤ w .entry
+  force-wide = omega (arith, body-parts k, wide .entry-is)
 
-  pub force-in : body + c + 8 ≤ length s
-  force-in = omega (arith, body-parts k)
+  pub force-room : length s < 18446744073709551616 → at + (w .entry - 8) < 18446744073709551616
+  force-room z = omega arith
 
-  module _ (d : ℕ) where
-    pub force-other : (y : ℕ) → (k ≡ 1 → ⊥) → y ≡ number (take 8 (drop (body + c) s)) → leb d y ≡ inForce d (entryOf k (drop body s))
-    unfolding inForce startedBy entryOf startWidth
-    force-other y n e =
-        let z : startWidth k ≡ 0 = rw (ne-eqb k 1 n) in
-        let w : body + c + startWidth k ≡ body + c = omega arith in
-        let v : number (endOf (entryOf k (drop body s))) ≡ y = ap number (end-at ∙ ap (λ (j : ℕ). take 8 (drop j s)) w) ∙ sym e in
-        sym (rw (ne-eqb k 1 n) (ap (leb d) v))
+  pub force-in : at + (w .entry - 8) + 8 ≤ length s
+  force-in = omega (arith, force-wide)
 
-    module _ (o : k ≡ 1) (x : ℕ) (e : x ≡ number (take 8 (drop (body + c) s))) where
-      start-wide : startWidth k ≡ 8
-      unfolding startWidth
-      start-wide = rw o
+  module _ (d y : ℕ) (ey : y ≡ number (take 8 (drop (at + (w .entry - 8)) s))) where
+    ended : number (endOf (entryOf k (drop body s))) ≡ y
+    ended = ap number end-at ∙ sym ey
 
+    pub force-other : (k ≡ 1 → ⊥) → leb d y ≡ inForce d (entryOf k (drop (at + 1) s))
+    unfolding inForce startedBy entryOf
+    force-other n = sym (rw (ne-eqb k 1 n) (ap (leb d) ended))
+
+  module _ (o : k ≡ 1) where
+    start-wide : startWidth k ≡ 8
+    unfolding startWidth
+    start-wide = rw o
+
+    pub force-before : 8 ≤ at + (w .entry - 8)
+    force-before = omega (arith, body-parts k, wide .entry-is, start-wide)
+
+    pub force-start : at + (w .entry - 8) - 8 + 8 ≤ length s
+    force-start = omega (arith, force-before, force-in)
+
+    module _ (d x : ℕ) (ex : x ≡ number (take 8 (drop (at + (w .entry - 8) - 8) s))) where
       started : number (startOf (entryOf k (drop body s))) ≡ x
-      started = ap number (start-at ∙ ap (λ (j : ℕ). take j rests) start-wide) ∙ sym e
+      started =
+          let e : body + codeWidth k ≡ at + (w .entry - 8) - 8 = omega (arith, body-parts k, wide .entry-is, start-wide) in
+          ap number (start-at ∙ ap (λ (j : ℕ). take j rests) start-wide ∙ ap (λ (j : ℕ). take 8 (drop j s)) e) ∙ sym ex
 
-      pub force-second : body + c + 8 + 8 ≤ length s
-      force-second = omega (arith, body-parts k, start-wide)
-
-      pub force-not-yet : d < x → false ≡ inForce d (entryOf k (drop body s))
+      pub force-not-yet : d < x → false ≡ inForce d (entryOf k (drop (at + 1) s))
       unfolding inForce startedBy entryOf
       force-not-yet h = sym (rw (eq-eqb k 1 o) (ap (λ (j : ℕ). leb j d && leb d (number (endOf (entryOf k (drop body s))))) started ∙ rw (lt-leb x d h)))
 
-      pub force-vaccine : (y : ℕ) → x ≤ d → y ≡ number (take 8 (drop (body + c + 8) s)) → leb d y ≡ inForce d (entryOf k (drop body s))
+      pub force-vaccine : (y : ℕ) → x ≤ d → y ≡ number (take 8 (drop (at + (w .entry - 8)) s)) → leb d y ≡ inForce d (entryOf k (drop (at + 1) s))
       unfolding inForce startedBy entryOf
       force-vaccine y h f =
-          let w : body + c + startWidth k ≡ body + c + 8 = omega (arith, start-wide) in
-          let v : number (endOf (entryOf k (drop body s))) ≡ y = ap number (end-at ∙ ap (λ (j : ℕ). take 8 (drop j s)) w) ∙ sym f in
-          sym (rw (eq-eqb k 1 o) (ap (λ (j : ℕ). leb j d && leb d (number (endOf (entryOf k (drop body s))))) started ∙ rw (le-leb x d h) (ap (leb d) v)))
+          sym (rw (eq-eqb k 1 o) (ap (λ (j : ℕ). leb j d && leb d (number (endOf (entryOf k (drop body s))))) started ∙ rw (le-leb x d h) (ap (leb d) (ended d y f))))
 
-pub ruleset for-in-force = (needs, force-room, force-in, force-second, force-other, force-not-yet, force-vaccine)
+pub ruleset for-in-force = (needs, force-wide, force-room, force-in, force-other, force-before, force-start, force-not-yet, force-vaccine)
 
--- look_up
-module _ (s : Text) (q : Sections) (k : ℕ) (x : Text) (d : ℕ) (f : Found) (e : FoundIs s k (foundIn s q k x) f) where
-  pub look-no : f ≡ Absent → Unknown ≡ standingBy s q k x d
-  unfolding standingBy knownBy
-  look-no h = rw (← e .exact, h)
+-- standing
+module _ (s : Text) (k : ℕ) (w : Layout) (end : ℕ) (a b : Text) (d : ℕ) (f : Found) (e : FoundIs s k (foundBy s k w end a b) f) where
+  pub said-no : f ≡ Absent → Unknown ≡ saidBy s k w end a b d
+  unfolding saidBy
+  said-no h = rw (← e .exact, h)
 
   module _ (p : Position) (h : f ≡ At p) where
-    pub look-lies : p .at + 1 + bodyWidth k ≤ length s
-    look-lies = rw h at (e .lies)
+    pub said-lies : WidthsAre k w → p .at + w .entry ≤ length s
+    said-lies g =
+        let l : p .at + 1 + bodyWidth k ≤ length s = rw h at (e .lies) in
+        omega (arith, g .entry-is)
 
-    found : foundIn s q k x ≡ At p
-    found = sym (e .exact) ∙ h
-
-    pub look-body : length s < 18446744073709551616 → p .at + 1 < 18446744073709551616
-    look-body z = omega (arith, look-lies)
+    by : foundBy s k w end a b ≡ At p
+    by = sym (e .exact) ∙ h
 
     module _ (r : Bool) (i : r ≡ inForce d (entryOf k (drop (p .at + 1) s))) where
-      pub look-in : r ≡ true → InForce ≡ standingBy s q k x d
-      unfolding standingBy knownBy inForceBy
-      look-in z = sym (rw found (rw (← i, z)))
+      pub said-in : r ≡ true → InForce ≡ saidBy s k w end a b d
+      unfolding saidBy
+      said-in z = sym (rw by (rw (← i, z)))
 
-      pub look-out : r ≡ false → OutOfForce ≡ standingBy s q k x d
-      unfolding standingBy knownBy inForceBy
-      look-out z = sym (rw found (rw (← i, z)))
+      pub said-out : r ≡ false → OutOfForce ≡ saidBy s k w end a b d
+      unfolding saidBy
+      said-out z = sym (rw by (rw (← i, z)))
 
-pub ruleset for-look-up = (needs, look-no, look-lies, look-body, look-in, look-out)
+pub ruleset for-standing = (needs, said-no, said-lies, said-in, said-out)
+
+-- look_up
+module _ (s : Text) (q : Sections) (k : ℕ) (a b : Text) (d : ℕ) where
+  pub look-no : 8 < k → Unknown ≡ standingBy s q k (codeText k a b) d
+  unfolding standingBy knownBy
+  look-no h = rw (← find-kind s q k a b h)
+
+  pub look-is : (w : Layout) (r : Standing) → LayoutIs q k w → k ≤ 8 → r ≡ saidBy s k w (q .end) a b d → r ≡ standingBy s q k (codeText k a b) d
+  unfolding standingBy knownBy inForceBy saidBy
+  look-is w r e l h = h ∙ rw (find-by s q k a b w e l)
+
+pub ruleset for-look-up = (needs, find-widths, look-no, look-is)

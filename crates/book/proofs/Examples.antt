@@ -11,7 +11,7 @@ use Rattle.house.specs.Search.{binarySearch}
 use Rattle.book.specs.declared.Standing.{Standing}
 use Rattle.book.specs.declared.Standing.the-variants.{Unknown, OutOfForce, InForce}
 use Rattle.book.specs.Book.{firstWidth, secondWidth, codeWidth, startWidth, bodyWidth, entryOf, entriesAfter, entries, codeOf, datesOf, startOf, endOf, firstForm, secondForm, codeForm, startForm, datesForm, bodyForm, entryForm, above, bookOk, startedBy, inForce, codeText, isEntry, listed, listedOn, standingOf, bytesBefore, sectionsOf}
-use Rattle.book.specs.LookUp.{sectionStart, countFrom, countIn, placeOf, codeAt, orderAt, foundAt, hashOf, entryHashed, namedIn, searchedIn, soughtIn, foundIn, knownBy, inForceBy, standingBy}
+use Rattle.book.specs.LookUp.{sectionStart, countFrom, countIn, placeOf, codeAt, orderAt, foundAt, hashOf, codeHash, entryHashed, namedIn, searchedIn, soughtIn, foundIn, knownBy, inForceBy, standingBy}
 
 -- the entries of book E
 abbrev testv : Text
@@ -105,5 +105,5 @@ cases =
     ∷ []
 
 pub book-e : all (λ (b : Bool). b) cases ≡ true
-unfolding orderOf below same isDigit isGraphic digits number graphicLen isPadded isLeap daysIn isDay isDate isEnd binarySearch firstWidth secondWidth codeWidth startWidth bodyWidth entryOf entriesAfter entries codeOf datesOf startOf endOf firstForm secondForm codeForm startForm datesForm bodyForm entryForm above bookOk startedBy inForce codeText isEntry listed listedOn standingOf bytesBefore sectionsOf sectionStart countFrom countIn placeOf codeAt orderAt foundAt hashOf entryHashed namedIn searchedIn soughtIn foundIn knownBy inForceBy standingBy
+unfolding orderOf below same isDigit isGraphic digits number graphicLen isPadded isLeap daysIn isDay isDate isEnd binarySearch firstWidth secondWidth codeWidth startWidth bodyWidth entryOf entriesAfter entries codeOf datesOf startOf endOf firstForm secondForm codeForm startForm datesForm bodyForm entryForm above bookOk startedBy inForce codeText isEntry listed listedOn standingOf bytesBefore sectionsOf sectionStart countFrom countIn placeOf codeAt orderAt foundAt hashOf codeHash entryHashed namedIn searchedIn soughtIn foundIn knownBy inForceBy standingBy
 book-e = refl

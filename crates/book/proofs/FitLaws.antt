@@ -40,7 +40,7 @@ filled-long (suc w) [] = (omega (arith, filled-long w [] .0), omega arith)
 filled-long (suc w) (b ∷ t) = (omega (arith, filled-long w t .0), omega (arith, filled-long w t .1))
 
 -- a text with blanks after it: as long as its width, unless it is longer
-filled-fits : (w : ℕ) (t : Text) → length t ≤ w → length (filled w t) ≡ w
+pub filled-fits : (w : ℕ) (t : Text) → length t ≤ w → length (filled w t) ≡ w
 filled-fits zero [] h = refl
 filled-fits zero (b ∷ t) h = absurd (omega arith)
 filled-fits (suc w) [] h = ap suc (filled-fits w [] (omega arith))

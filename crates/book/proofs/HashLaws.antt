@@ -1,47 +1,54 @@
--- What each need of the hash table asks: `hash`, `last_byte`, `hashed`, `put_byte`, `hash_entry`, `hash_entries`, `hash_kinds`, `copy_book` and
--- `hash_book`.
+-- What each need of the hash table asks: `hash`, `hash_of`, `last_byte`, `hashed`, `put_byte`, `hash_entry`, `hash_entries`, `hash_kinds`,
+-- `copy_book` and `hash_book`.
 -- Assumes nothing.
 use mathlib.Core.Path.{_≡_, refl, sym, ap, _∙_}
-use mathlib.Core.Bool.{Bool, true, false, cond}
+use mathlib.Core.Bool.{true}
 use mathlib.Core.List.{[], _∷_, _++_, append-nil}
 use Prim.Native.Nat.{ℕ, zero, suc, _+_, _-_, _*_, _/_, _%_, _≤_, _<_}
-use native.Mathlib.Nat.{mod-lt}
+use native.Mathlib.Nat.{mod-lt, add-zero, zero-add, suc-add, add-sub-cancel-left}
 use native.Mathlib.Numerals.{add-one}
 use native.Mathlib.Omega.{arith}
-use borrow.Author.Tests.{eq-eqb, ne-eqb, le-leb, lt-leb}
+use borrow.Author.Tests.{le-leb, lt-leb}
 use borrow.Author.Needs.{needs}
 use borrow.Rule.Slice.PartMut.{putMid}
-use lib.Dec.{eqb}
 use lib.ListN.{length, take, drop, getD, set, length-append, List·getD-eq-default}
-use lib.Seq.{take-append-seam, drop-append-seam, take-all}
+use lib.Seq.{take-append-seam, drop-append-seam, take-all, take-take, drop-drop}
 use Rattle.house.specs.Text.{Text}
 use Rattle.house.proofs.Suffix.{drop-here, drop-past, rest, set-past, copy-more}
 use Rattle.book.specs.declared.Sections.{Sections}
 use Rattle.book.specs.declared.Layout.{Layout}
 use Rattle.book.specs.Book.{firstWidth, secondWidth, codeWidth, bodyWidth, filled, codeText}
-use Rattle.book.specs.LookUp.{sectionStart, countFrom, countIn, placeOf, codeAt, hashOf, entryHashed, hashEntry, hashEntries, hashKinds, withHashTable}
-use Rattle.book.specs.Inside.{WidthsAre, LayoutIs}
+use Rattle.book.specs.LookUp.{sectionStart, countFrom, countIn, placeOf, codeAt, hashOf, codeHash, entryHashed, hashEntry, hashEntries, hashKinds, withHashTable}
+use Rattle.book.specs.Inside.{fits, WidthsAre, LayoutIs}
+use Rattle.book.proofs.FitLaws.{fit-says, filled-fits}
 use Rattle.book.proofs.SearchLaws.{probe-mul, probe-add, probe-body, probe-code}
 
--- hashOf
-module _ (t : Text) (from h i : ℕ) (inv : hashOf from t ≡ hashOf h (drop i t)) where
-  module _ (l : i < length t) where
-    pub hash-of-blank : getD t i 0 ≡ 32 → hashOf from t ≡ hashOf h (drop (i + 1) t)
-    unfolding hashOf
-    hash-of-blank e = inv ∙ rw (drop-here t i l, eq-eqb _ _ e)
-
-    pub hash-of-byte : (v : ℕ) → (getD t i 0 ≡ 32 → ⊥) → v ≡ getD t i 0 → hashOf from t ≡ hashOf ((h * 37 + v) % 32768) (drop (i + 1) t)
-    unfolding hashOf
-    hash-of-byte v e f = inv ∙ rw (drop-here t i l, ne-eqb _ _ e, ← f)
-
-  pub hash-of-end : length t ≤ i → h ≡ hashOf from t
+-- hash
+module _ (t : Text) where
+  pub hash-start : 0 ≡ hashOf (drop (length t) t)
   unfolding hashOf
-  hash-of-end l = sym (inv ∙ rw (drop-past t i l))
+  hash-start = rw (drop-past t (length t) (omega arith))
 
-pub hash-of-low : (n : ℕ) → n % 32768 < 32768
-hash-of-low n = mod-lt n (omega arith)
+  module _ (h i : ℕ) (inv : h ≡ hashOf (drop i t)) where
+    pub hash-more : (v : ℕ) → 0 < i → i ≤ length t → v ≡ getD t (i - 1) 0 → (h * 37 + v + 32736) % 32768 ≡ hashOf (drop (i - 1) t)
+    unfolding hashOf
+    hash-more v z l e =
+        let d : i - 1 + 1 ≡ i = omega arith in
+        rw (drop-here t (i - 1) (omega arith), d, ← inv, ← e)
 
-pub ruleset for-hash = (needs, hash-of-blank, hash-of-byte, hash-of-end, hash-of-low)
+    pub hash-end : i ≤ 0 → h ≡ hashOf t
+    hash-end l = let d : i ≡ 0 = omega arith in inv ∙ rw d
+
+pub hash-low : (n : ℕ) → n % 32768 < 32768
+hash-low n = mod-lt n (omega arith)
+
+pub ruleset for-hash = (needs, hash-start, hash-more, hash-end, hash-low)
+
+-- hash_of
+pub hash-both : (k a b u v w : ℕ) → u ≡ b → v ≡ a → w ≡ k → (u * 1021 + v + w) % 32768 ≡ (b * 1021 + a + k) % 32768
+hash-both k a b u v w eu ev ew = rw (eu, ev, ew)
+
+pub ruleset for-hash-of = (needs, hash-both, hash-low)
 
 -- last_byte
 pub byte-past : (t : Text) (at : ℕ) → length t ≤ at → 0 ≡ getD t at 0
@@ -49,35 +56,35 @@ byte-past t at l = sym (List·getD-eq-default t 0 l)
 
 pub ruleset for-last-byte = (needs, byte-past)
 
--- hashed: padding is not hashed
-hash-of-append : (h : ℕ) (x y : Text) → hashOf h (x ++ y) ≡ hashOf (hashOf h x) y
+-- hashed: padding counts 0
+hash-blanks : (w : ℕ) → hashOf (filled w []) ≡ 0
 unfolding hashOf
-hash-of-append h [] y = refl
-hash-of-append h (b ∷ x) y = go (eqb b 32) (hash-of-append h x y) (hash-of-append ((h * 37 + b) % 32768) x y)
-  where
-    go : (r : Bool) → hashOf h (x ++ y) ≡ hashOf (hashOf h x) y → hashOf ((h * 37 + b) % 32768) (x ++ y) ≡ hashOf (hashOf ((h * 37 + b) % 32768) x) y → cond r (hashOf h (x ++ y)) (hashOf ((h * 37 + b) % 32768) (x ++ y)) ≡ hashOf (cond r (hashOf h x) (hashOf ((h * 37 + b) % 32768) x)) y
-    go true e f = e
-    go false e f = f
+hash-blanks zero = refl
+hash-blanks (suc w) = rw (hash-blanks w)
 
-hash-of-filled : (h w : ℕ) (t : Text) → hashOf h (filled w t) ≡ hashOf h t
+hash-filled : (w : ℕ) (t : Text) → hashOf (filled w t) ≡ hashOf t
 unfolding hashOf
-hash-of-filled h zero t = refl
-hash-of-filled h (suc w) [] = hash-of-filled h w []
-hash-of-filled h (suc w) (b ∷ t) = rw (hash-of-filled h w t, hash-of-filled ((h * 37 + b) % 32768) w t)
+hash-filled zero t = refl
+hash-filled (suc w) [] = hash-blanks (suc w)
+hash-filled (suc w) (b ∷ t) = rw (hash-filled w t)
 
-hash-of-code : (k : ℕ) (a b : Text) → hashOf k (codeText k a b) ≡ hashOf (hashOf k a) b
-unfolding codeText
-hash-of-code k a b = hash-of-append k (filled (firstWidth k) a) (filled (secondWidth k) b) ∙ rw (hash-of-filled k (firstWidth k) a, hash-of-filled (hashOf k a) (secondWidth k) b)
+code-hash : (k : ℕ) (a b : Text) → fits k a b ≡ true → codeHash k (codeText k a b) ≡ (hashOf b * 1021 + hashOf a + k) % 32768
+unfolding codeHash codeText
+code-hash k a b f =
+    let n : firstWidth k ≡ length (filled (firstWidth k) a) = sym (filled-fits (firstWidth k) a (fit-says k a b f .0)) in
+    let x : take (firstWidth k) (filled (firstWidth k) a ++ filled (secondWidth k) b) ≡ filled (firstWidth k) a = ap (λ (j : ℕ). take j (filled (firstWidth k) a ++ filled (secondWidth k) b)) n ∙ take-append-seam (filled (firstWidth k) a) (filled (secondWidth k) b) in
+    let y : drop (firstWidth k) (filled (firstWidth k) a ++ filled (secondWidth k) b) ≡ filled (secondWidth k) b = ap (λ (j : ℕ). drop j (filled (firstWidth k) a ++ filled (secondWidth k) b)) n ∙ drop-append-seam (filled (firstWidth k) a) (filled (secondWidth k) b) in
+    rw (x, y, hash-filled (firstWidth k) a, hash-filled (secondWidth k) b)
 
 module _ (s : Text) (end k : ℕ) (a b : Text) where
   pub entry-hashed-none : length s < end → 0 ≡ entryHashed s end k (codeText k a b)
   unfolding entryHashed
   entry-hashed-none l = rw (drop-past s end (omega arith))
 
-  module _ (v f m : ℕ) (ev : v ≡ k) (ef : f ≡ hashOf v a) (em : m ≡ hashOf f b) where
+  module _ (m : ℕ) (em : m ≡ (hashOf b * 1021 + hashOf a + k) % 32768) (f : fits k a b ≡ true) where
     is-hash : entryHashed s end k (codeText k a b) ≡ getD (drop end s) (m * 2) 0 + getD (drop end s) (m * 2 + 1) 0 * 256
     unfolding entryHashed
-    is-hash = rw (hash-of-code k a b, ← ev, ← ef, ← em)
+    is-hash = rw (code-hash k a b f, ← em)
 
     pub entry-hashed-past : (x : ℕ) → length (take (length s - end) (drop end s)) ≤ m * 2 + 1 → x ≡ getD (take (length s - end) (drop end s)) (m * 2) 0
         → x ≡ entryHashed s end k (codeText k a b)
@@ -96,6 +103,16 @@ pub ruleset for-hashed = (needs, entry-hashed-none, entry-hashed-past, entry-has
 pub ruleset for-put-byte = (needs, set-past)
 
 -- hash_entry
+drop-take : (n m : ℕ) (t : Text) → drop n (take (n + m) t) ≡ take m (drop n t)
+drop-take zero m t = ap (λ (j : ℕ). take j t) (zero-add m)
+drop-take (suc n) zero [] = rw (add-zero (suc n))
+drop-take (suc n) (suc m) [] = ap (λ (j : ℕ). drop (suc n) (take j [])) (suc-add n (suc m))
+drop-take (suc n) m (x ∷ t) = ap (λ (j : ℕ). drop (suc n) (take j (x ∷ t))) (suc-add n m) ∙ drop-take n m t
+
+module _ (s : Text) (from n i w p q : ℕ) (h : i < n) (g : n * w ≤ length s - from) (v : p + q < w) where
+  pub row-part : from + i * w + 1 + p ≤ length s
+  row-part = omega (arith, probe-code s from n i w p q h g v)
+
 module _ (s : Text) (from n i w p q : ℕ) (h : i < n) (g : n * w ≤ length s - from) (v : p + q < w) (z : length s < 18446744073709551616) where
   pub row-first : from + i * w + 1 + p < 18446744073709551616
   row-first = omega (arith, probe-code s from n i w p q h g v)
@@ -107,16 +124,18 @@ module _ (k : ℕ) (w : Layout) (h : WidthsAre k w) where
   pub row-codes : w .first + w .second < w .entry
   row-codes = h .codes-in
 
-  pub row-noted : (s : Text) (i : ℕ) (t u v : Text) (j m : ℕ) → j ≡ k
-      → m ≡ hashOf j (take (w .from + i * w .entry + 1 + w .first + w .second - (w .from + i * w .entry + 1)) (drop (w .from + i * w .entry + 1) s))
+  pub row-noted : (s : Text) (i : ℕ) (t u v : Text) (m : ℕ)
+      → m ≡ (hashOf (take (w .from + i * w .entry + 1 + w .first + w .second - (w .from + i * w .entry + 1 + w .first)) (drop (w .from + i * w .entry + 1 + w .first) s)) * 1021 + hashOf (take (w .from + i * w .entry + 1 + w .first - (w .from + i * w .entry + 1)) (drop (w .from + i * w .entry + 1) s)) + k) % 32768
       → u ≡ set t (m * 2) (i % 256) → v ≡ set u (m * 2 + 1) (i / 256 % 256) → v ≡ hashEntry s k (w .from) i t
-  unfolding hashEntry codeAt placeOf codeWidth
-  row-noted s i t u v j m ej em eu ev =
-      let n : w .from + i * w .entry + 1 + w .first + w .second - (w .from + i * w .entry + 1) ≡ w .first + w .second = omega arith in
-      let e : m ≡ hashOf k (take (firstWidth k + secondWidth k) (drop (w .from + i * (bodyWidth k + 1) + 1) s)) = em ∙ rw (ej, n, h .entry-is, h .first-is, h .second-is) in
-      ev ∙ rw (eu, e)
+  unfolding hashEntry codeHash codeAt placeOf codeWidth
+  row-noted s i t u v m em eu ev =
+      let x : take (firstWidth k) (take (firstWidth k + secondWidth k) (drop (w .from + i * (bodyWidth k + 1) + 1) s)) ≡ take (w .from + i * w .entry + 1 + w .first - (w .from + i * w .entry + 1)) (drop (w .from + i * w .entry + 1) s) =
+      take-take (firstWidth k) (firstWidth k + secondWidth k) (drop (w .from + i * (bodyWidth k + 1) + 1) s) (omega arith) ∙ rw (add-sub-cancel-left (w .from + i * w .entry + 1) (w .first), h .entry-is, h .first-is) in
+      let y : drop (firstWidth k) (take (firstWidth k + secondWidth k) (drop (w .from + i * (bodyWidth k + 1) + 1) s)) ≡ take (w .from + i * w .entry + 1 + w .first + w .second - (w .from + i * w .entry + 1 + w .first)) (drop (w .from + i * w .entry + 1 + w .first) s) =
+      drop-take (firstWidth k) (secondWidth k) (drop (w .from + i * (bodyWidth k + 1) + 1) s) ∙ rw (add-sub-cancel-left (w .from + i * w .entry + 1 + w .first) (w .second), h .entry-is, h .first-is, h .second-is, drop-drop (firstWidth k) (w .from + i * (bodyWidth k + 1) + 1) s) in
+      ev ∙ rw (eu, em, ← x, ← y)
 
-pub ruleset for-hash-entry = (needs, probe-mul, probe-add, probe-body, probe-code, row-codes, row-first, row-second, row-noted)
+pub ruleset for-hash-entry = (needs, probe-mul, probe-add, probe-body, probe-code, row-codes, row-part, row-first, row-second, row-noted)
 
 -- hash_entries
 module _ (s : Text) (k from : ℕ) (t₀ : Text) where

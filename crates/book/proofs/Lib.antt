@@ -7,6 +7,7 @@ pub mod FormLaws
 pub mod ReadLaws
 pub mod RunLaws
 pub mod LayoutLaws
+pub mod FilledLaws
 pub mod CodeLaws
 pub mod FitLaws
 pub mod SearchLaws

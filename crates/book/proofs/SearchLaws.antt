@@ -21,7 +21,7 @@ use Rattle.book.specs.declared.Found.{Found}
 use Rattle.book.specs.declared.Found.the-variants.{At, Absent}
 use Rattle.book.specs.Book.{firstWidth, secondWidth, codeWidth, bodyWidth, codeText}
 use Rattle.book.specs.LookUp.{sectionStart, countFrom, countIn, placeOf, codeAt, orderAt, foundAt, entryHashed, namedIn, searchedIn, soughtIn, foundIn}
-use Rattle.book.specs.Inside.{fits, codePadded, codeOrder, WidthsAre, LayoutIs, Laid, Lies, FoundIs, NamedIs, SearchedIs, SoughtIs, HashedIs}
+use Rattle.book.specs.Inside.{fits, codePadded, codeOrder, foundBy, WidthsAre, LayoutIs, Laid, Lies, FoundIs, NamedIs, SearchedIs, SoughtIs, HashedIs}
 use Rattle.book.proofs.FitLaws.{fit-says, code-text, fits-is}
 use Rattle.book.proofs.LayoutLaws.{count-is, count-in, count-back, count-out}
 
@@ -212,50 +212,55 @@ module _ (s : Text) (k end : ℕ) (w : Layout) (a b : Text) where
 pub ruleset for-in-section = (needs, section-back, section-out, section-laid, section-is)
 
 -- found
-module _ (s : Text) (q : Sections) (k : ℕ) (a b : Text) where
-  pub found-kind : 8 < k → FoundIs s k (foundIn s q k (codeText k a b)) Absent
-  unfolding foundIn
-  found-kind h = record { exact = rw (lt-leb k 8 h); lies = tt }
+module _ (s : Text) (k end : ℕ) (w : Layout) (a b : Text) (e : WidthsAre k w) where
+  unfit : fits k a b ≡ false → FoundIs s k (foundBy s k w end a b) Absent
+  unfolding foundBy
+  unfit h = record { exact = rw (← fits-is k a b, h); lies = tt }
 
-  module _ (l : k ≤ 8) (w : Layout) (e : LayoutIs q k w) where
-    pub found-widths : WidthsAre k w
-    found-widths = e .widths
+  pub found-first : w .first < length a → FoundIs s k (foundBy s k w end a b) Absent
+  unfolding fits
+  found-first h =
+      let z : firstWidth k < length a = omega (arith, e .first-is) in
+      unfit (rw (lt-leb (length a) (firstWidth k) z))
 
-    unfit : fits k a b ≡ false → FoundIs s k (foundIn s q k (codeText k a b)) Absent
-    unfolding foundIn
-    unfit h = record { exact = rw (le-leb k 8 l, ← fits-is k a b, h); lies = tt }
+  module _ (g : length a ≤ w .first) where
+    first-in : leb (length a) (firstWidth k) ≡ true
+    first-in = le-leb (length a) (firstWidth k) (omega (arith, e .first-is))
 
-    pub found-first : w .first < length a → FoundIs s k (foundIn s q k (codeText k a b)) Absent
+    pub found-second : w .second < length b → FoundIs s k (foundBy s k w end a b) Absent
     unfolding fits
-    found-first h =
-        let z : firstWidth k < length a = omega (arith, e .widths .first-is) in
-        unfit (rw (lt-leb (length a) (firstWidth k) z))
+    found-second h =
+        let z : secondWidth k < length b = omega (arith, e .second-is) in
+        unfit (rw (first-in, lt-leb (length b) (secondWidth k) z))
 
-    module _ (g : length a ≤ w .first) where
-      first-in : leb (length a) (firstWidth k) ≡ true
-      first-in = le-leb (length a) (firstWidth k) (omega (arith, e .widths .first-is))
-
-      pub found-second : w .second < length b → FoundIs s k (foundIn s q k (codeText k a b)) Absent
+    module _ (h : length b ≤ w .second) where
+      pub found-fits : fits k a b ≡ true
       unfolding fits
-      found-second h =
-          let z : secondWidth k < length b = omega (arith, e .widths .second-is) in
-          unfit (rw (first-in, lt-leb (length b) (secondWidth k) z))
+      found-fits =
+          let z : length b ≤ secondWidth k = omega (arith, e .second-is) in
+          rw (first-in, le-leb (length b) (secondWidth k) z)
 
-      module _ (h : length b ≤ w .second) where
-        pub found-fits : fits k a b ≡ true
-        unfolding fits
-        found-fits =
-            let z : length b ≤ secondWidth k = omega (arith, e .widths .second-is) in
-            rw (first-in, le-leb (length b) (secondWidth k) z)
+      pub found-is : (r : Found) → HashedIs s k w end a b r → FoundIs s k (foundBy s k w end a b) r
+      unfolding foundBy
+      found-is r f = record { exact = f .exact ∙ rw (← fits-is k a b, found-fits); lies = f .lies }
 
-        pub found-is : (r : Found) → HashedIs s k w (q .end) a b r → FoundIs s k (foundIn s q k (codeText k a b)) r
-        unfolding foundIn countIn
-        found-is r f = record { exact = f .exact ∙ rw (le-leb k 8 l, ← fits-is k a b, found-fits, e .starts, e .ends); lies = f .lies }
+pub ruleset for-found = (needs, found-first, found-second, found-fits, found-is)
 
-pub ruleset for-found = (needs, found-kind, found-widths, found-first, found-second, found-fits, found-is)
+-- find, and look_up: by the sections of a book
+module _ (s : Text) (q : Sections) (k : ℕ) (a b : Text) where
+  pub find-kind : 8 < k → Absent ≡ foundIn s q k (codeText k a b)
+  unfolding foundIn
+  find-kind h = rw (lt-leb k 8 h)
 
--- find
-pub find-is : (s : Text) (k : ℕ) (f r : Found) → FoundIs s k f r → r ≡ f
-find-is s k f r h = h .exact
+  module _ (w : Layout) (e : LayoutIs q k w) where
+    pub find-widths : WidthsAre k w
+    find-widths = e .widths
 
-pub ruleset for-find = (needs, find-is)
+    pub find-by : k ≤ 8 → foundBy s k w (q .end) a b ≡ foundIn s q k (codeText k a b)
+    unfolding foundIn foundBy countIn
+    find-by l = rw (le-leb k 8 l, e .starts, e .ends)
+
+    pub find-is : (r : Found) → k ≤ 8 → FoundIs s k (foundBy s k w (q .end) a b) r → r ≡ foundIn s q k (codeText k a b)
+    find-is r l h = h .exact ∙ find-by l
+
+pub ruleset for-find = (needs, find-kind, find-widths, find-is)

@@ -2,9 +2,9 @@
 -- Assumes nothing.
 use Prim.Native.Nat.{ℕ, suc, _+_, _≤_, _<_}
 use mathlib.Core.Path.{_≡_}
-use mathlib.Core.Bool.{Bool, true, cond, _&&_}
+use mathlib.Core.Bool.{Bool, true, false, cond, _&&_}
 use mathlib.Core.List.{List, [], _∷_, _++_}
-use lib.ListN.{length, take, drop}
+use lib.ListN.{length, getD, take, drop}
 use lib.Dec.{eqb, leb}
 use Rattle.house.specs.Text.{Text, below, pad, orderOf}
 use Rattle.house.specs.declared.Order.{Order}
@@ -12,7 +12,9 @@ use Rattle.book.specs.declared.Sections.{Sections}
 use Rattle.book.specs.declared.Layout.{Layout}
 use Rattle.book.specs.declared.Found.{Found}
 use Rattle.book.specs.declared.Found.the-variants.{At, Absent}
-use Rattle.book.specs.LookUp.{sectionStart, countFrom, entryHashed, namedIn, searchedIn, soughtIn}
+use Rattle.book.specs.declared.Standing.{Standing}
+use Rattle.book.specs.declared.Standing.the-variants.{Unknown, OutOfForce, InForce}
+use Rattle.book.specs.LookUp.{sectionStart, countFrom, entryHashed, namedIn, searchedIn, soughtIn, isThere, isInForceAt}
 use Rattle.book.specs.Book.{firstWidth, secondWidth, codeWidth, bodyWidth, Entry, entryOf, entries, codeOf, bodyForm, entryForm, above, bytesBefore, codeText}
 
 -- Validity, kind by kind
@@ -42,6 +44,23 @@ pub record RunIs (s : Text) (from k r : ℕ) : Type 0 where
 
 abbrev pub isByte : ℕ → ℕ → Bool
 isByte v b = eqb b v
+
+-- a Boolean tells whether something holds
+pub record Tells (P : Type 0) (r : Bool) : Type 0 where
+  pub holds : r ≡ true → P
+  pub fails : r ≡ false → P → ⊥
+
+-- all bytes from a place to another are blanks
+abbrev pub Blank : Text → ℕ → ℕ → Type 0
+Blank s from to = (j : ℕ) → from ≤ j → j < to → getD s j 0 ≡ 32
+
+-- the four bytes at a place are those at place i of a text
+abbrev pub FourSame : Text → ℕ → Text → ℕ → Type 0
+FourSame s at t i = (k : ℕ) → k < 4 → getD s (at + k) 0 ≡ getD t (i + k) 0
+
+-- the first n bytes of a text stand at a place
+abbrev pub Stands : Text → ℕ → Text → ℕ → Type 0
+Stands s at t n = (j : ℕ) → j < n → getD s (at + j) 0 ≡ getD t j 0
 
 -- neither text is longer than its width
 unfoldable pub fits : ℕ → Text → Text → Bool
@@ -101,3 +120,15 @@ SoughtIs s k w i a b r = FoundIs s k (soughtIn s k (w .from) (countFrom s k (w .
 
 abbrev pub HashedIs : Text → ℕ → Layout → ℕ → Text → Text → Found → Type 0
 HashedIs s k w end a b r = SoughtIs s k w (entryHashed s end k (codeText k a b)) a b r
+
+-- the entry of kind k that has the code of two texts, among those laid out so, by the table from `end` on
+unfoldable pub foundBy : Text → ℕ → Layout → ℕ → Text → Text → Found
+foundBy s k w end a b =
+    let code = codeText k a b in
+    cond (eqb (length code) (codeWidth k)) (soughtIn s k (w .from) (countFrom s k (w .from) (w .to)) code (entryHashed s end k code)) Absent
+
+-- what it says on day d
+unfoldable pub saidBy : Text → ℕ → Layout → ℕ → Text → Text → ℕ → Standing
+saidBy s k w end a b d =
+    let f = foundBy s k w end a b in
+    cond (isThere f) (cond (isInForceAt s d k f) InForce OutOfForce) Unknown

@@ -16,7 +16,7 @@ use Rattle.book.specs.declared.Found.{Found}
 use Rattle.book.specs.declared.Found.the-variants.{At, Absent}
 use Rattle.book.specs.declared.Standing.{Standing}
 use Rattle.book.specs.declared.Standing.the-variants.{Unknown, OutOfForce, InForce}
-use Rattle.book.specs.Book.{codeWidth, bodyWidth, entryOf, inForce}
+use Rattle.book.specs.Book.{firstWidth, codeWidth, bodyWidth, entryOf, inForce}
 
 -- where the entries of kind k start, and those of the kind before it end
 unfoldable pub sectionStart : Sections → ℕ → ℕ
@@ -53,17 +53,20 @@ orderAt s k from code i = orderOf (codeAt s k from i) code
 unfoldable pub foundAt : ℕ → ℕ → ℕ → Found
 foundAt k from i = At (record { at = placeOf k from i })
 
--- the number below 32768 that is the hash of a code, from h on, at first its kind: by its bytes other than blanks, so the same with and
--- without padding
-unfoldable pub hashOf : ℕ → Text → ℕ
-hashOf h [] = h
-hashOf h (b ∷ t) = cond (eqb b 32) (hashOf h t) (hashOf ((h * 37 + b) % 32768) t)
+-- the hash of a text, a number below 32768: by its bytes, of which a blank counts 0, so the same with and without blanks after it
+unfoldable pub hashOf : Text → ℕ
+hashOf [] = 0
+hashOf (b ∷ t) = (hashOf t * 37 + b + 32736) % 32768
+
+-- the hash of a code of kind k: of the kind, of the code or the first of two, and of the second
+unfoldable pub codeHash : ℕ → Text → ℕ
+codeHash k code = (hashOf (drop (firstWidth k) code) * 1021 + hashOf (take (firstWidth k) code) + k) % 32768
 
 -- which entry of a kind the table from `end` on names for a code: two bytes, the lower first; 0 for a byte that is not there
 unfoldable pub entryHashed : Text → ℕ → ℕ → Text → ℕ
 entryHashed s end k code =
     let table = drop end s in
-    let at = hashOf k code * 2 in
+    let at = codeHash k code * 2 in
     getD table at 0 + getD table (at + 1) 0 * 256
 
 -- where entry i is of the n of kind k that start at `from`, if there is one and it has the code
@@ -114,7 +117,7 @@ standingBy s q k code d = cond (knownBy s q k code) (cond (inForceBy s q d k cod
 -- entry i of those of kind k that start at `from`, put into a table
 unfoldable pub hashEntry : Text → ℕ → ℕ → ℕ → Text → Text
 hashEntry s k from i t =
-    let at = hashOf k (codeAt s k from i) * 2 in
+    let at = codeHash k (codeAt s k from i) * 2 in
     set (set t at (i % 256)) (at + 1) (i / 256 % 256)
 
 -- the first n of them

@@ -1,10 +1,11 @@
 // Codes of entries held against texts that are not padded.
 use house::Order;
 ghost use mathlib.Core.Path.{_≡_};
+ghost use mathlib.Core.Logic.{_⊎_};
 ghost use Prim.Native.Nat.{_≤_, _+_};
 ghost use lib.ListN.{length, take, drop};
-ghost use Rattle.house.specs.Text.{all, isBlank, isSame, pad, same};
-ghost use Rattle.book.specs.Inside.{isByte, codeOrder};
+ghost use Rattle.house.specs.Text.{all, isSame};
+ghost use Rattle.book.specs.Inside.{isByte, codeOrder, Tells, Blank, FourSame, Stands};
 
 // Whether the eight bytes at a place are all this one.
 pub(crate) fn eight_are(text: &[u8], i: usize, b: u8) -> bool
@@ -21,13 +22,23 @@ pub(crate) fn eight_are(text: &[u8], i: usize, b: u8) -> bool
         & (text[i + 7] == b)
 }
 
-// Whether there are only blanks from a place on, byte by byte.
-fn few_blanks(code: &[u8], at: usize) -> bool
-    ensures { λ r. ⌜ r ≡ all isBlank (drop at (now (code .entry))) ⌝ }
+// The lesser of two places.
+fn lesser(i: usize, j: usize) -> usize
+    ensures { λ r. ⌜ r ≤ i ⌝ }
+    ensures { λ r. ⌜ r ≤ j ⌝ }
+    ensures { λ r. ⌜ (r ≡ i) ⊎ (r ≡ j) ⌝ }
+{
+    if i < j { i } else { j }
+}
+
+// Whether the bytes from a place to another are all blanks, byte by byte.
+fn few_blanks(book: &[u8], at: usize, end: usize) -> bool
+    requires { ⌜ end ≤ length (now book) ⌝ }
+    ensures { λ r. ⌜ Tells (Blank (now (book .entry)) at end) r ⌝ }
 {
     let mut i = at;
-    while i < code.len() {
-        if code[i] != 32 {
+    while i < end {
+        if book[i] != 32 {
             return false;
         }
         i += 1;
@@ -36,38 +47,73 @@ fn few_blanks(code: &[u8], at: usize) -> bool
 }
 
 // The same, eight at a time. The last eight may have been asked in part.
-fn blanks_from(code: &[u8], at: usize) -> bool
-    requires { ⌜ at ≤ length (now code) ⌝ }
-    ensures { λ r. ⌜ r ≡ all isBlank (drop at (now (code .entry))) ⌝ }
+fn blanks(book: &[u8], at: usize, end: usize) -> bool
+    requires { ⌜ at ≤ end ⌝ }
+    requires { ⌜ end ≤ length (now book) ⌝ }
+    ensures { λ r. ⌜ Tells (Blank (now (book .entry)) at end) r ⌝ }
 {
-    if code.len() - at < 8 {
-        return few_blanks(code, at);
+    if end - at < 8 {
+        return few_blanks(book, at, end);
     }
-    let last = code.len() - 8;
+    let last = end - 8;
     let mut i = at;
-    while i < last {
-        if eight_are(code, i, 32) {
-            i += 8;
+    while i < end {
+        let j = lesser(i, last);
+        if eight_are(book, j, 32) {
+            i = j + 8;
             continue;
         }
         return false;
     }
-    eight_are(code, last, 32)
+    true
 }
 
-// Whether a code is a text with blanks after it.
-fn is_filled(code: &[u8], text: &[u8]) -> bool
-    requires { ⌜ length (now text) ≤ length (now code) ⌝ }
-    ensures { λ r. ⌜ r ≡ same (now (code .entry)) (pad (length (now (code .entry))) (now (text .entry))) ⌝ }
+// Whether the four bytes at a place are those at a place of a text.
+fn four_same(book: &[u8], at: usize, text: &[u8], i: usize) -> bool
+    requires { ⌜ at + 4 ≤ length (now book) ⌝ }
+    requires { ⌜ i + 4 ≤ length (now text) ⌝ }
+    ensures { λ r. ⌜ Tells (FourSame (now (book .entry)) at (now (text .entry)) i) r ⌝ }
+{
+    (book[at] == text[i])
+        & (book[at + 1] == text[i + 1])
+        & (book[at + 2] == text[i + 2])
+        & (book[at + 3] == text[i + 3])
+}
+
+// Whether a text stands at a place, byte by byte.
+fn few_same(book: &[u8], at: usize, text: &[u8]) -> bool
+    requires { ⌜ at + length (now text) ≤ length (now book) ⌝ }
+    ensures { λ r. ⌜ Tells (Stands (now (book .entry)) at (now (text .entry)) (length (now (text .entry)))) r ⌝ }
 {
     let mut i = 0;
     while i < text.len() {
-        if code[i] != text[i] {
+        if book[at + i] != text[i] {
             return false;
         }
         i += 1;
     }
-    blanks_from(code, i)
+    true
+}
+
+// The same, four at a time. The last four may have been asked in part.
+fn stands_at(book: &[u8], at: usize, text: &[u8]) -> bool
+    requires { ⌜ at + length (now text) ≤ length (now book) ⌝ }
+    ensures { λ r. ⌜ Tells (Stands (now (book .entry)) at (now (text .entry)) (length (now (text .entry)))) r ⌝ }
+{
+    if text.len() < 4 {
+        return few_same(book, at, text);
+    }
+    let last = text.len() - 4;
+    let mut i = 0;
+    while i < text.len() {
+        let j = lesser(i, last);
+        if four_same(book, at + j, text, j) {
+            i = j + 4;
+            continue;
+        }
+        return false;
+    }
+    true
 }
 
 // Whether the code of p bytes at a place, and the one of q after it, are two texts, padded.
@@ -78,12 +124,19 @@ pub(crate) fn has_code(book: &[u8], at: usize, p: usize, q: usize, a: &[u8], b: 
     ensures { λ r. ⌜ r ≡ isSame (codeOrder (now (book .entry)) at p q (now (a .entry)) (now (b .entry))) ⌝ }
 {
     let m = at + p;
-    let e = m + q;
-    if is_filled(&book[at..m], a) {
-        is_filled(&book[m..e], b)
-    } else {
-        false
+    if stands_at(book, at, a) {
+        if blanks(book, at + a.len(), m) {
+            if q == 0 {
+                return true;
+            }
+            if stands_at(book, m, b) {
+                return blanks(book, m + b.len(), m + q);
+            }
+            return false;
+        }
+        return false;
     }
+    false
 }
 
 // How the code of p bytes at a place, and the one of q after it, stand to two texts, padded.

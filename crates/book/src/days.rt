@@ -1,18 +1,19 @@
 // In force on a day: "start <= d <= end, or d <= end where there is no start"; and what a book says of a code on a day.
 use crate::Found;
+use crate::Layout;
 use crate::Sections;
 use crate::Standing;
 use crate::codes::eight_are;
 use crate::kinds::VACCINE;
 use crate::search::found;
-use crate::widths::code_width;
 use dates::Date;
 ghost use mathlib.Core.Path.{_≡_};
 ghost use Prim.Native.Nat.{_+_, _-_, _≤_};
 ghost use lib.ListN.{length, take, drop};
 ghost use Rattle.house.specs.Text.{number};
-ghost use Rattle.book.specs.Book.{bodyWidth, entryOf, inForce, codeText};
+ghost use Rattle.book.specs.Book.{entryOf, inForce, codeText};
 ghost use Rattle.book.specs.LookUp.{standingBy};
+ghost use Rattle.book.specs.Inside.{WidthsAre, saidBy};
 
 // What a byte counts as a digit.
 fn digit(b: u8) -> u32
@@ -45,30 +46,31 @@ fn end_number(book: &[u8], at: usize) -> u32
     }
 }
 
-// Whether the entry of a kind whose body starts at a place is in force on a day.
-fn in_force(book: &[u8], kind: u8, body: usize, day: u32) -> bool
-    requires { ⌜ body + bodyWidth kind ≤ length (now book) ⌝ }
-    ensures { λ r. ⌜ r ≡ inForce day (entryOf kind (drop body (now (book .entry)))) ⌝ }
+// Whether the entry of a kind that is laid out so, and starts at a place, is in force on a day.
+fn in_force(book: &[u8], w: Layout, kind: u8, at: usize, day: u32) -> bool
+    requires { ⌜ WidthsAre kind w ⌝ }
+    requires { ⌜ at + w .entry ≤ length (now book) ⌝ }
+    ensures { λ r. ⌜ r ≡ inForce day (entryOf kind (drop (at + 1) (now (book .entry)))) ⌝ }
 {
-    let dates = body + code_width(kind);
+    let end = at + (w.entry - 8);
     if kind == VACCINE {
-        if day < eight_digits(book, dates) {
+        if day < eight_digits(book, end - 8) {
             return false;
         }
-        return day <= end_number(book, dates + 8);
+        return day <= end_number(book, end);
     }
-    day <= end_number(book, dates)
+    day <= end_number(book, end)
 }
 
-// What a book says of a code, given as for find, on a day.
-pub fn look_up(book: &[u8], sections: Sections, kind: u8, a: &[u8], b: &[u8], day: u32) -> Standing
-    ensures { λ r. ⌜ r ≡ standingBy (now (book .entry)) sections kind (codeText kind (now (a .entry)) (now (b .entry))) day ⌝ }
+// What the entries of a kind that are laid out so, with the table from `end` on, say of a code on a day.
+fn standing(book: &[u8], w: Layout, end: usize, kind: u8, a: &[u8], b: &[u8], day: u32) -> Standing
+    requires { ⌜ WidthsAre kind w ⌝ }
+    ensures { λ r. ⌜ r ≡ saidBy (now (book .entry)) kind w end (now (a .entry)) (now (b .entry)) day ⌝ }
 {
-    let f = found(book, sections, kind, a, b);
+    let f = found(book, w, end, kind, a, b);
     match f {
         Found::At(place) => {
-            let body = place.at + 1;
-            if in_force(book, kind, body, day) {
+            if in_force(book, w, kind, place.at, day) {
                 Standing::InForce
             } else {
                 Standing::OutOfForce
@@ -76,4 +78,19 @@ pub fn look_up(book: &[u8], sections: Sections, kind: u8, a: &[u8], b: &[u8], da
         }
         Found::Absent => Standing::Unknown,
     }
+}
+
+// What a book says of a code, given as for find, on a day. `standing` is called twice so that it stays a function of its own, and this one is
+// short enough for the compiler to put it where the kind is known.
+pub fn look_up(book: &[u8], sections: Sections, kind: u8, a: &[u8], b: &[u8], day: u32) -> Standing
+    ensures { λ r. ⌜ r ≡ standingBy (now (book .entry)) sections kind (codeText kind (now (a .entry)) (now (b .entry))) day ⌝ }
+{
+    if 8 < kind {
+        return Standing::Unknown;
+    }
+    let w = sections.layout_of(kind);
+    if kind == VACCINE {
+        return standing(book, w, sections.end, kind, a, b, day);
+    }
+    standing(book, w, sections.end, kind, a, b, day)
 }

@@ -4,12 +4,13 @@ use crate::Layout;
 use crate::Sections;
 use crate::layouts::count_of;
 ghost use mathlib.Core.Path.{_≡_};
+ghost use mathlib.Core.Bool.{true};
 ghost use mathlib.Core.List.{_++_};
-ghost use Prim.Native.Nat.{_<_, _≤_, _+_, _-_, _*_};
+ghost use Prim.Native.Nat.{_<_, _≤_, _+_, _-_, _*_, _%_};
 ghost use lib.ListN.{length, drop, set, getD};
 ghost use Rattle.book.specs.Book.{codeText};
 ghost use Rattle.book.specs.LookUp.{hashOf, entryHashed, hashEntry, hashKind, hashKinds, withHashTable};
-ghost use Rattle.book.specs.Inside.{WidthsAre};
+ghost use Rattle.book.specs.Inside.{fits, WidthsAre};
 
 // A byte, as a number to reckon with.
 fn value(b: u8) -> usize
@@ -19,24 +20,26 @@ fn value(b: u8) -> usize
     b as usize
 }
 
-// The hash of a text, from another on.
-fn hash(from: usize, text: &[u8]) -> usize
-    requires { ⌜ from < 32768 ⌝ }
-    ensures { λ r. ⌜ r ≡ hashOf from (now (text .entry)) ⌝ }
+// The hash of a text. A blank counts 0, for 32 + 32736 is 32768.
+fn hash(text: &[u8]) -> usize
+    ensures { λ r. ⌜ r ≡ hashOf (now (text .entry)) ⌝ }
     ensures { λ r. ⌜ r < 32768 ⌝ }
 {
-    let mut h = from;
-    let mut i = 0;
-    while i < text.len() {
-        let b = text[i];
-        if b != 32 {
-            h = (h * 37 + value(b)) % 32768;
-            i += 1;
-            continue;
-        }
-        i += 1;
+    let mut h = 0;
+    let mut i = text.len();
+    while 0 < i {
+        i -= 1;
+        h = (h * 37 + value(text[i]) + 32736) % 32768;
     }
     h
+}
+
+// The hash of a code of a kind, given as two texts.
+fn hash_of(k: u8, a: &[u8], b: &[u8]) -> usize
+    ensures { λ r. ⌜ r ≡ (hashOf (now (b .entry)) * 1021 + hashOf (now (a .entry)) + k) % 32768 ⌝ }
+    ensures { λ r. ⌜ r < 32768 ⌝ }
+{
+    (hash(b) * 1021 + hash(a) + value(k)) % 32768
 }
 
 // The byte of a table at a place, 0 past its end.
@@ -53,14 +56,14 @@ fn last_byte(table: &[u8], at: usize) -> usize
 
 // Which entry of a kind the table from `end` on names for a code, given as for find.
 pub(crate) fn hashed(book: &[u8], end: usize, k: u8, a: &[u8], b: &[u8]) -> usize
+    requires { ⌜ fits k (now a) (now b) ≡ true ⌝ }
     ensures { λ r. ⌜ r ≡ entryHashed (now (book .entry)) end k (codeText k (now (a .entry)) (now (b .entry))) ⌝ }
     ensures { λ r. ⌜ r < 65536 ⌝ }
 {
     if book.len() < end {
         return 0;
     }
-    let first = hash(value(k), a);
-    let at = hash(first, b) * 2;
+    let at = hash_of(k, a, b) * 2;
     let table = &book[end..];
     if at + 1 < table.len() {
         value(table[at]) + value(table[at + 1]) * 256
@@ -86,8 +89,9 @@ fn hash_entry(book: &[u8], k: u8, w: Layout, n: usize, i: usize, table: &mut [u8
     ensures { λ _. ⌜ now (table .exit) ≡ hashEntry (now (book .entry)) k (w .from) i (now (table .entry)) ⌝ }
 {
     let code = w.from + i * w.entry + 1;
-    let end = code + w.first + w.second;
-    let at = hash(value(k), &book[code..end]) * 2;
+    let second = code + w.first;
+    let end = second + w.second;
+    let at = hash_of(k, &book[code..second], &book[second..end]) * 2;
     put_byte(table, at, (i % 256) as u8);
     put_byte(table, at + 1, (i / 256 % 256) as u8);
 }

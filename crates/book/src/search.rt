@@ -15,7 +15,7 @@ ghost use Prim.Native.Nat.{_<_, _≤_, _+_, _-_, _*_};
 ghost use lib.ListN.{length};
 ghost use Rattle.book.specs.Book.{codeText};
 ghost use Rattle.book.specs.LookUp.{foundIn};
-ghost use Rattle.book.specs.Inside.{fits, codeOrder, WidthsAre, Laid, FoundIs, NamedIs, SearchedIs, SoughtIs, HashedIs};
+ghost use Rattle.book.specs.Inside.{fits, codeOrder, foundBy, WidthsAre, Laid, FoundIs, NamedIs, SearchedIs, SoughtIs, HashedIs};
 
 // Where an entry starts, and how its code stands to another.
 struct Probed {
@@ -116,26 +116,27 @@ fn in_section(book: &[u8], end: usize, w: Layout, kind: u8, a: &[u8], b: &[u8]) 
     sought(book, w, kind, i, a, b)
 }
 
-// The entry of a kind with a code, and that it lies in the book.
-pub(crate) fn found(book: &[u8], sections: Sections, kind: u8, a: &[u8], b: &[u8]) -> Found
-    ensures { λ r. ⌜ FoundIs (now (book .entry)) kind (foundIn (now (book .entry)) sections kind (codeText kind (now (a .entry)) (now (b .entry)))) r ⌝ }
+// The entry of a kind that is laid out so, with a code, and that it lies in the book.
+pub(crate) fn found(book: &[u8], w: Layout, end: usize, kind: u8, a: &[u8], b: &[u8]) -> Found
+    requires { ⌜ WidthsAre kind w ⌝ }
+    ensures { λ r. ⌜ FoundIs (now (book .entry)) kind (foundBy (now (book .entry)) kind w end (now (a .entry)) (now (b .entry))) r ⌝ }
 {
-    if 8 < kind {
-        return Found::Absent;
-    }
-    let w = sections.layout_of(kind);
     if w.first < a.len() {
         return Found::Absent;
     }
     if w.second < b.len() {
         return Found::Absent;
     }
-    in_section(book, sections.end, w, kind, a, b)
+    in_section(book, end, w, kind, a, b)
 }
 
 // Finds the entry of a kind with a code, given as one text or, for a pair, as two, not padded. A text longer than its code's width is absent.
 pub fn find(book: &[u8], sections: Sections, kind: u8, a: &[u8], b: &[u8]) -> Found
     ensures { λ r. ⌜ r ≡ foundIn (now (book .entry)) sections kind (codeText kind (now (a .entry)) (now (b .entry))) ⌝ }
 {
-    found(book, sections, kind, a, b)
+    if 8 < kind {
+        return Found::Absent;
+    }
+    let w = sections.layout_of(kind);
+    found(book, w, sections.end, kind, a, b)
 }

@@ -1,21 +1,21 @@
--- What each need of `number_of` asks: what digits write.
+-- What each need of `two_digits` asks: what digits write.
 -- Assumes nothing.
-use mathlib.Core.Path.{_≡_, refl}
+use mathlib.Core.Path.{_≡_, refl, sym, ap, _∙_}
 use mathlib.Core.Bool.{Bool, true, false, _&&_}
-use mathlib.Core.List.{_∷_}
-use Prim.Native.Nat.{ℕ, _+_, _-_, _*_, _^_, _≤_, _<_}
-use native.Mathlib.Nat.{lt-of-lt-of-le, pow-le-pow-right}
-use native.Mathlib.Numerals.{add-one}
+use mathlib.Core.List.{[], _∷_}
+use Prim.Native.Nat.{ℕ, zero, suc, _+_, _-_, _*_, _≤_, _<_}
+use native.Mathlib.Nat.{not-suc-le-zero, le-of-suc-le-suc}
 use native.Mathlib.Omega.{arith}
 use borrow.Author.Tests.{leb-true}
 use borrow.Author.Needs.{needs}
 use lib.Dec.{leb}
-use lib.ListN.{length, getD, drop}
-use Rattle.house.specs.Text.{Text, all, isDigit, digits, numberFrom, number}
-use Rattle.house.proofs.Suffix.{drop-here, drop-past}
+use lib.ListN.{length, getD, take, drop}
+use lib.Seq.{take-all}
+use Rattle.house.specs.Text.{Text, all, isDigit, digits, number}
+use Rattle.house.proofs.Suffix.{eight}
 use Rattle.house.proofs.Small.{clash}
 
--- what the digits from i on tell, of nine at most
+-- what digits tell of each
 cons-digits : (b : ℕ) (s : Text) → digits (b ∷ s) ≡ true → (48 ≤ b) × (b ≤ 57) × (digits s ≡ true)
 unfolding digits isDigit
 cons-digits b s e = go (leb 48 b) (leb b 57) refl refl e
@@ -25,41 +25,48 @@ cons-digits b s e = go (leb 48 b) (leb b 57) refl refl e
     go true false p q e = clash (cc)
     go true true p q e = (leb-true _ _ p, leb-true _ _ q, e)
 
-module _ (t : Text) (i : ℕ) (h : i < length t) (e : digits (drop i t) ≡ true) where
-  at-digit : (48 ≤ getD t i 0) × (getD t i 0 ≤ 57) × (digits (drop (i + 1) t) ≡ true)
-  at-digit = cons-digits _ _ (rw (drop-here t i h) at e)
+pub digit-at : (t : Text) (i : ℕ) → i < length t → digits t ≡ true → (48 ≤ getD t i 0) × (getD t i 0 ≤ 57)
+digit-at [] i h e = absurd (not-suc-le-zero h)
+digit-at (b ∷ t) zero h e =
+    let c = cons-digits b t e in
+    (c .0, c .1)
+digit-at (b ∷ t) (suc i) h e = digit-at t i (le-of-suc-le-suc h) (cons-digits b t e .2)
 
-  pub num-low : 48 ≤ getD t i 0
-  num-low = at-digit .0
+-- two_digits
+module _ (t : Text) (i : ℕ) (h : i + 1 < length t) (e : digits t ≡ true) where
+  first : (48 ≤ getD t i 0) × (getD t i 0 ≤ 57)
+  first = digit-at t i (omega arith) e
 
-  pub num-cast : getD t i 0 - 48 < 4294967296
-  num-cast = omega (arith, at-digit .1)
+  second : (48 ≤ getD t (i + 1) 0) × (getD t (i + 1) 0 ≤ 57)
+  second = digit-at t (i + 1) h e
 
-  pub num-rest : digits (drop (i + 1) t) ≡ true
-  num-rest = at-digit .2
+  pub two-least : 528 ≤ getD t i 0 * 10 + getD t (i + 1) 0
+  two-least = omega (arith, first .0, second .0)
 
-  module _ (v w : ℕ) (l : length t ≤ w) (n : w ≤ 9) (p : v < 10 ^ i) where
-    small : v < 100000000
-    small = lt-of-lt-of-le p (pow-le-pow-right {n = 10} (omega arith) {i = i} {j = 8} (omega arith))
+  pub two-is : getD t i 0 * 10 + getD t (i + 1) 0 - 528 ≡ (getD t i 0 - 48) * 10 + (getD t (i + 1) 0 - 48)
+  two-is = omega (arith, first .0, second .0)
 
-    pub num-mul : v * 10 < 4294967296
-    num-mul = omega (arith, small)
+  pub two-most : getD t i 0 * 10 + getD t (i + 1) 0 - 528 ≤ 99
+  two-most = omega (arith, first .1, second .1)
 
-    pub num-add : v * 10 + (getD t i 0 - 48) < 4294967296
-    num-add = omega (arith, small, at-digit .1)
+  pub two-fit : getD t i 0 * 10 + getD t (i + 1) 0 < 4294967296
+  two-fit = omega (arith, first .1, second .1)
 
-    pub num-pow : v * 10 + (getD t i 0 - 48) < 10 ^ (i + 1)
-    num-pow = rw add-one (omega (arith, p, at-digit .1))
+  pub first-fit : getD t i 0 < 4294967296
+  first-fit = omega (arith, first .1)
 
-pub num-start : (t : Text) → number t ≡ numberFrom 0 (drop 0 t)
+  pub second-fit : getD t (i + 1) 0 < 4294967296
+  second-fit = omega (arith, second .1)
+
+  pub ten-fit : getD t i 0 * 10 < 4294967296
+  ten-fit = omega (arith, first .1)
+
+pub ruleset for-two-digits = (needs, two-least, two-is, two-most, two-fit, first-fit, second-fit, ten-fit)
+
+-- eight digits, two by two
+pub by-twos : (t : Text) → length t ≡ 8 → (a b m d : ℕ) → a ≡ (getD t 0 0 - 48) * 10 + (getD t 1 0 - 48) → b ≡ (getD t 2 0 - 48) * 10 + (getD t 3 0 - 48)
+    → m ≡ (getD t 4 0 - 48) * 10 + (getD t 5 0 - 48) → d ≡ (getD t 6 0 - 48) * 10 + (getD t 7 0 - 48) → number t ≡ (a * 100 + b) * 10000 + m * 100 + d
 unfolding number
-num-start t = refl
-
-module _ (t : Text) (i v x : ℕ) (inv : x ≡ numberFrom v (drop i t)) where
-  pub num-on : i < length t → x ≡ numberFrom (v * 10 + (getD t i 0 - 48)) (drop (i + 1) t)
-  num-on h = rw (inv, drop-here t i h)
-
-  pub num-end : length t ≤ i → v ≡ x
-  num-end h = rw (inv, drop-past t i h)
-
-pub ruleset for-number-of = (needs, num-start, num-low, num-cast, num-rest, num-mul, num-add, num-pow, num-on, num-end)
+by-twos t l a b m d ea eb em ed =
+    let w : t ≡ take 8 (drop 0 t) = sym (take-all 8 t (omega arith)) in
+    rw (ea, eb, em, ed) (ap number (w ∙ eight t 0 (omega arith)) ∙ omega arith)

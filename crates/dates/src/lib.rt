@@ -1,11 +1,11 @@
 // Dates: "eight digits YYYYMMDD, a real Gregorian day in the years 1800 to 2199".
 use house::all_digits;
 ghost use mathlib.Core.Path.{_≡_};
-ghost use mathlib.Core.Bool.{true};
-ghost use Prim.Native.Nat.{_≤_};
-ghost use lib.ListN.{length};
-ghost use Rattle.house.specs.Text.{digits, number};
-ghost use Rattle.dates.specs.Dates.{isLeap, daysIn, isDay, isEnd, dayOf, datedOf, endedOf};
+ghost use mathlib.Core.Bool.{true, _&&_};
+ghost use Prim.Native.Nat.{_+_, _-_, _*_, _≤_, _<_};
+ghost use lib.ListN.{length, getD};
+ghost use Rattle.house.specs.Text.{within, digits};
+ghost use Rattle.dates.specs.Dates.{firstYear, lastYear, isLeap, daysIn, isDay, isEnd, dayOf, datedOf, endedOf};
 
 // A date, as the number YYYYMMDD, or an end that is open, as the number OPEN.
 pub struct Date {
@@ -42,20 +42,64 @@ fn days_in(y: u32, m: u32) -> u32
     }
 }
 
-// The number that up to eight digits write.
-fn number_of(text: &[u8]) -> u32
-    requires { ⌜ length (now text) ≤ 8 ⌝ }
-    requires { ⌜ digits (now text) ≡ true ⌝ }
-    ensures { λ r. ⌜ r ≡ number (now (text .entry)) ⌝ }
+// Every month has so many days.
+const SHORTEST: u32 = 28;
+
+// Whether a day of a month of a year is real, and in the years of a date.
+fn is_real(y: u32, m: u32, d: u32) -> bool
+    ensures { λ r. ⌜ r ≡ (within firstYear lastYear y && within 1 12 m && within 1 (daysIn y m) d) ⌝ }
 {
-    let mut v: u32 = 0;
-    let mut i = 0;
-    while i < text.len() {
-        let d = (text[i] - 48) as u32;
-        v = v * 10 + d;
-        i += 1;
+    if y < Date::FIRST_YEAR {
+        return false;
     }
-    v
+    if Date::LAST_YEAR < y {
+        return false;
+    }
+    if m < 1 {
+        return false;
+    }
+    if 12 < m {
+        return false;
+    }
+    if d < 1 {
+        return false;
+    }
+    if d <= SHORTEST {
+        return true;
+    }
+    let most = days_in(y, m);
+    if most < d { false } else { true }
+}
+
+// What two bytes 0 come to, read as digits are.
+const ZEROS: u32 = 528;
+
+// The number that the two digits at a place write.
+fn two_digits(text: &[u8], i: usize) -> u32
+    requires { ⌜ i + 1 < length (now text) ⌝ }
+    requires { ⌜ digits (now text) ≡ true ⌝ }
+    ensures { λ r. ⌜ r ≡ (getD (now (text .entry)) i 0 - 48) * 10 + (getD (now (text .entry)) (i + 1) 0 - 48) ⌝ }
+    ensures { λ r. ⌜ r ≤ 99 ⌝ }
+{
+    text[i] as u32 * 10 + text[i + 1] as u32 - ZEROS
+}
+
+// The date that eight digits write.
+fn eight_digits(text: &[u8]) -> Dated
+    requires { ⌜ length (now text) ≡ 8 ⌝ }
+    requires { ⌜ digits (now text) ≡ true ⌝ }
+    ensures { λ r. ⌜ r ≡ datedOf (now (text .entry)) ⌝ }
+{
+    let y = two_digits(text, 0) * 100 + two_digits(text, 2);
+    let m = two_digits(text, 4);
+    let d = two_digits(text, 6);
+    if is_real(y, m, d) {
+        Dated::Day(Date {
+            number: y * 10000 + m * 100 + d,
+        })
+    } else {
+        Dated::NoDate
+    }
 }
 
 impl Date {
@@ -77,23 +121,7 @@ impl Date {
         let y = n / 10000;
         let m = n / 100 % 100;
         let d = n % 100;
-        if y < Self::FIRST_YEAR {
-            return false;
-        }
-        if Self::LAST_YEAR < y {
-            return false;
-        }
-        if m < 1 {
-            return false;
-        }
-        if 12 < m {
-            return false;
-        }
-        if d < 1 {
-            return false;
-        }
-        let most = days_in(y, m);
-        if most < d { false } else { true }
+        is_real(y, m, d)
     }
 
     // The date of a number, as today comes.
@@ -115,7 +143,7 @@ impl Date {
             return Dated::NoDate;
         }
         if all_digits(text) {
-            Self::of_number(number_of(text))
+            eight_digits(text)
         } else {
             Dated::NoDate
         }

@@ -9,6 +9,7 @@ pub mod OrderLaws
 pub mod Decisions
 pub mod SearchLaws
 pub mod PadLaws
+pub mod DigitLaws
 pub mod KeyLaws
 pub mod Padding
 pub mod NumberLaws

@@ -1,4 +1,4 @@
--- What each need of `all_within`, `all_digits`, `rises_at`, `no_rise` and `is_padded` asks.
+-- What each need of `all_within`, `rises_at`, `no_rise` and `is_padded` asks.
 -- Assumes nothing.
 use mathlib.Core.Path.{_≡_, refl, sym, ap, _∙_, subst}
 use mathlib.Core.Bool.{Bool, true, false, not, cond, _&&_}
@@ -9,7 +9,7 @@ use borrow.Author.Needs.{needs}
 use borrow.Author.Tests.{eq-eqb, ne-eqb, eqb-true, eqb-false, lt-ltb, le-ltb, ltb-true, ltb-false, le-leb, lt-leb, leb-true, leb-false}
 use lib.Dec.{eqb, ltb, leb}
 use lib.ListN.{length, getD, drop, length-drop}
-use Rattle.house.specs.Text.{Text, all, within, isBlank, isDigit, isGraphic, digits, graphicLen, isPadded}
+use Rattle.house.specs.Text.{Text, all, within, isBlank, isGraphic, graphicLen, isPadded}
 use Rattle.house.specs.Inside.{risesAt, staysAt, noRise}
 use Rattle.house.proofs.Small.{both}
 use Rattle.house.proofs.Suffix.{drop-here, drop-past}
@@ -97,27 +97,6 @@ module _ (t : Text) (lo hi i l h : ℕ) (x : Bool) (inv : x ≡ rangeIn lo hi l 
         go false = refl
 
 pub ruleset for-all-within = (needs, range-holds, range-on, range-low, range-high)
-
--- all_digits
-module _ (t : Text) (i : ℕ) (x : Bool) (inv : x ≡ digits (drop i t)) where
-  module _ (h : i < length t) where
-    pub digit-low : getD t i 0 < 48 → false ≡ x
-    unfolding digits isDigit
-    digit-low l = rw (inv, drop-here t i h, lt-leb _ _ l)
-
-    pub digit-high : 48 ≤ getD t i 0 → 57 < getD t i 0 → false ≡ x
-    unfolding digits isDigit
-    digit-high n l = rw (inv, drop-here t i h, le-leb _ _ n, lt-leb _ _ l)
-
-    pub digit-on : 48 ≤ getD t i 0 → getD t i 0 ≤ 57 → x ≡ digits (drop (i + 1) t)
-    unfolding digits isDigit
-    digit-on n l = rw (inv, drop-here t i h, le-leb _ _ n, le-leb _ _ l)
-
-  pub digit-end : length t ≤ i → true ≡ x
-  unfolding digits isDigit
-  digit-end h = rw (inv, drop-past t i h)
-
-pub ruleset for-all-digits = (needs, digit-low, digit-high, digit-on, digit-end)
 
 -- rises_at
 module _ (a b : ℕ) where

@@ -3,8 +3,8 @@ use crate::Order;
 ghost use mathlib.Core.Path.{_≡_};
 ghost use mathlib.Core.Logic.{_⊎_};
 ghost use mathlib.Core.List.{[]};
-ghost use Prim.Native.Nat.{_≤_};
-ghost use lib.ListN.{length, drop, getD};
+ghost use Prim.Native.Nat.{_+_, _≤_};
+ghost use lib.ListN.{length, take, drop, getD};
 ghost use Rattle.house.specs.Text.{digits, pad, orderOf, below, same};
 
 // The lesser of two numbers.
@@ -161,11 +161,26 @@ pub fn compare_pads(w: usize, a: &[u8], b: &[u8]) -> Order
     pads_from(w, a, b, i)
 }
 
-// Whether each byte is a digit.
-pub fn all_digits(text: &[u8]) -> bool
-    ensures { λ r. ⌜ r ≡ digits (now (text .entry)) ⌝ }
+// Whether the eight bytes at a place are digits, without a branch for each.
+fn eight_digits(text: &[u8], i: usize) -> bool
+    requires { ⌜ i + 8 ≤ length (now text) ⌝ }
+    ensures { λ r. ⌜ r ≡ digits (take 8 (drop i (now (text .entry)))) ⌝ }
 {
-    let mut i = 0;
+    ((48 <= text[i]) & (text[i] <= 57))
+        & ((48 <= text[i + 1]) & (text[i + 1] <= 57))
+        & ((48 <= text[i + 2]) & (text[i + 2] <= 57))
+        & ((48 <= text[i + 3]) & (text[i + 3] <= 57))
+        & ((48 <= text[i + 4]) & (text[i + 4] <= 57))
+        & ((48 <= text[i + 5]) & (text[i + 5] <= 57))
+        & ((48 <= text[i + 6]) & (text[i + 6] <= 57))
+        & ((48 <= text[i + 7]) & (text[i + 7] <= 57))
+}
+
+// Whether each byte from a place on is a digit, byte by byte.
+fn few_digits(text: &[u8], at: usize) -> bool
+    ensures { λ r. ⌜ r ≡ digits (drop at (now (text .entry))) ⌝ }
+{
+    let mut i = at;
     while i < text.len() {
         let b = text[i];
         if b < 48 {
@@ -177,4 +192,19 @@ pub fn all_digits(text: &[u8]) -> bool
         i += 1;
     }
     true
+}
+
+// Whether each byte is a digit, eight at a time.
+pub fn all_digits(text: &[u8]) -> bool
+    ensures { λ r. ⌜ r ≡ digits (now (text .entry)) ⌝ }
+{
+    let mut i = 0;
+    while 8 <= text.len() - i {
+        if eight_digits(text, i) {
+            i += 8;
+            continue;
+        }
+        return false;
+    }
+    few_digits(text, i)
 }

@@ -7,6 +7,8 @@ pub use Rattle.lines_fields.proofs.FieldLaws
 pub use Rattle.lines_fields.proofs.MarkLaws
 -- What the functions' own needs ask
 mod KindNeeds
+mod PlainLaws
+mod ByteNeeds
 mod FaultNeeds
 -- No second answer
 mod OneAnswer

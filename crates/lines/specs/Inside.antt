@@ -2,12 +2,12 @@
 -- Assumes nothing.
 use Prim.Native.Nat.{ℕ}
 use mathlib.Core.Path.{_≡_}
-use mathlib.Core.Bool.{Bool, true, not, cond}
+use mathlib.Core.Bool.{Bool, true, false, not, cond, _&&_}
 use mathlib.Core.List.{List, [], _∷_}
 use lib.ListN.{length}
 use lib.Dec.{eqb, ltb}
 use Rattle.house.specs.Text.{Text, all}
-use Rattle.lines_fields.specs.Lines.{Line, linesOf, fieldsOf}
+use Rattle.lines_fields.specs.Lines.{LF, CR, Line, endingOf, linesOf, fieldsOf}
 use Rattle.lines.specs.Records.{IF, recordOf, countOf}
 use Rattle.lines.specs.Shape.{follows, printable, pipeLast, causeOf}
 
@@ -18,6 +18,38 @@ whole s = all (λ (l : Line). l .ended) (linesOf s)
 -- the greater of two bytes
 unfoldable pub greaterOf : ℕ → ℕ → ℕ
 greaterOf a b = cond (ltb a b) b a
+
+-- the greatest byte
+abbrev pub greatest : ℕ
+greatest = 255
+
+-- a byte where the least is looked for: an LF and the byte e count as the greatest
+unfoldable pub raisedOf : ℕ → ℕ → ℕ
+raisedOf e b = cond (eqb b LF) greatest (cond (eqb b e) greatest b)
+
+-- each byte lies in 32..126, or below and is an LF or the byte e
+unfoldable pub plainBut : ℕ → Text → Bool
+plainBut e [] = true
+plainBut e (b ∷ s) = cond (ltb (raisedOf e b) 32) false (cond (ltb 126 b) false (plainBut e s))
+
+-- 1 where a byte is a CR and the next is no LF
+unfoldable pub strayAt : ℕ → ℕ → ℕ
+strayAt b c = cond (eqb b CR) (cond (eqb c LF) 0 1) 0
+
+-- a byte before these is no CR, or the first of them is an LF
+abbrev pub noStrayAt : ℕ → Text → Bool
+noStrayAt b [] = not (eqb b CR)
+noStrayAt b (c ∷ s) = eqb (strayAt b c) 0
+
+-- each CR stands before an LF
+unfoldable pub noStray : Text → Bool
+noStray [] = true
+noStray (b ∷ s) = noStrayAt b s && noStray s
+
+-- each byte lies in 32..126, or a line's ending starts with it
+unfoldable pub plain : Text → Bool
+plain [] = true
+plain (b ∷ s) = cond (eqb (endingOf (b ∷ s)) 0) (printable (b ∷ [])) true && plain s
 
 -- the lowest of causes 4 to 6 at a record of kind k with n fields that follows one of kind p, 0 for none
 unfoldable pub kindCause : ℕ → ℕ → ℕ → ℕ

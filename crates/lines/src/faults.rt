@@ -1,44 +1,17 @@
 // Faults of shape: the causes, and the first line that has one.
 use crate::Shape;
+use crate::bytes::has_right_bytes;
+use crate::bytes::is_plain;
 use crate::kinds::IF;
 use crate::kinds::count_of;
 use crate::kinds::kind_of;
 use crate::kinds::may_follow;
 use lines_fields::count_fields;
-use lines_fields::lesser;
 use lines_fields::line_at;
 ghost use mathlib.Core.Path.{_≡_};
+ghost use mathlib.Core.Bool.{true};
 ghost use Rattle.lines.specs.Shape.{printable, pipeLast, causeOf, shapeOf};
-ghost use Rattle.lines.specs.Inside.{greaterOf, kindCause};
-
-// The greater of two bytes.
-fn greater(a: u8, b: u8) -> u8
-    ensures { λ r. ⌜ r ≡ greaterOf a b ⌝ }
-{
-    if a < b {
-        return b;
-    }
-    a
-}
-
-// Whether each byte of a text lies in 32..126: by its least and its greatest byte, which are found many bytes at a time.
-fn is_printable(text: &[u8]) -> bool
-    ensures { λ r. ⌜ r ≡ printable (now (text .entry)) ⌝ }
-{
-    let mut low: u8 = 32;
-    let mut high: u8 = 126;
-    let mut i = 0;
-    while i < text.len() {
-        let b = text[i];
-        low = lesser(low, b);
-        high = greater(high, b);
-        i += 1;
-    }
-    if low < 32 {
-        return false;
-    }
-    high <= 126
-}
+ghost use Rattle.lines.specs.Inside.{kindCause};
 
 // Whether a text ends in a pipe.
 fn pipe_last(text: &[u8]) -> bool
@@ -67,14 +40,15 @@ fn kind_cause(p: u8, k: u8, n: usize) -> u8
     0
 }
 
-// The lowest cause at a line after a record of kind p, 0 for none.
-fn line_cause(text: &[u8], ended: bool, p: u8) -> u8
+// The lowest cause at a line after a record of kind p, 0 for none. Its bytes are asked where its file is not plain.
+fn line_cause(text: &[u8], ended: bool, p: u8, plain: bool) -> u8
+    requires { ⌜ (plain ≡ true → printable (now text) ≡ true) ⌝ }
     ensures { λ r. ⌜ r ≡ causeOf p (record { text = now (text .entry); ended = ended }) ⌝ }
 {
     if !ended {
         return 1;
     }
-    if !is_printable(text) {
+    if !has_right_bytes(text, plain) {
         return 2;
     }
     if !pipe_last(text) {
@@ -83,10 +57,11 @@ fn line_cause(text: &[u8], ended: bool, p: u8) -> u8
     kind_cause(p, kind_of(text), count_fields(text))
 }
 
-// The shape of a file: one pass from line to line, that stops at the first fault.
+// The shape of a file: its bytes are tested once for all lines, and one pass from line to line stops at the first fault.
 pub fn shape_of(file: &[u8]) -> Shape
     ensures { λ r. ⌜ r ≡ shapeOf (now (file .entry)) ⌝ }
 {
+    let plain = is_plain(file);
     let mut at = 0;
     let mut line = 1;
     let mut p: u8 = 0;
@@ -95,7 +70,7 @@ pub fn shape_of(file: &[u8]) -> Shape
         let end = l.end;
         let text = &file[at..end];
         let ended = l.lf;
-        let cause = line_cause(text, ended, p);
+        let cause = line_cause(text, ended, p, plain);
         if cause != 0 {
             return Shape::Fault { line, cause };
         }

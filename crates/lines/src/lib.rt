@@ -1,4 +1,5 @@
 // The line reader: the kinds of records, their order, and a file's shape; and, of the crates below, the field of a line.
+mod bytes;
 mod faults;
 mod kinds;
 

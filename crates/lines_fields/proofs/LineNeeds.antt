@@ -1,7 +1,7 @@
--- What each need of `ending`, `lesser`, `least`, `plain_from`, `text_end`, `line_at`, `line_start` and `line_text` asks.
+-- What each need of `ending`, `lesser`, `eight_low`, `sixteens_from`, `plain_from`, `text_end`, `line_at`, `line_start` and `line_text` asks.
 -- Assumes nothing.
 use mathlib.Core.Path.{_≡_, refl, sym, _∙_}
-use mathlib.Core.Bool.{Bool, true, false, not, cond}
+use mathlib.Core.Bool.{Bool, true, false, not, cond, _||_}
 use mathlib.Core.List.{[], _∷_}
 use Prim.Native.Nat.{ℕ, zero, suc, _+_, _-_, _≤_, _<_}
 use native.Mathlib.Nat.{zero-add, add-zero, add-assoc}
@@ -12,11 +12,12 @@ use borrow.Author.Tests.{eq-eqb, ne-eqb, lt-ltb, le-ltb, ltb-true, ltb-false}
 use lib.Dec.{eqb, ltb}
 use lib.ListN.{length, getD, take, drop, length-drop}
 use lib.Seq.{drop-drop, drop-nil}
-use Rattle.house.specs.Text.{Text}
-use Rattle.house.proofs.Suffix.{drop-here, drop-past}
+use Rattle.house.specs.Text.{Text, any}
+use Rattle.house.proofs.Suffix.{drop-here, drop-past, eight}
+use Rattle.house.proofs.Small.{clash}
 use Rattle.lines_fields.specs.declared.LineAt.{LineAt}
 use Rattle.lines_fields.specs.Lines.{LF, CR, lfNext, endingOf, linesOf, lineOf, textLen, lineLen, lineAt, LineIs, textAt, linesLen}
-use Rattle.lines_fields.specs.Inside.{lesserOf, leastFrom, leastOf}
+use Rattle.lines_fields.specs.Inside.{lesserOf, isLow}
 use Rattle.lines_fields.proofs.LineLaws.{ending-plain, text-more, text-stop, text-nil, ended-is, line-is, at-next, at-text, left-falls, text-after}
 
 -- ending
@@ -71,46 +72,63 @@ module _ (a b : ℕ) where
 
 pub ruleset for-lesser = (needs, lesser-second, lesser-first)
 
--- least: from a position i, with the least so far
-pub least-holds : (t : Text) → leastOf t ≡ leastFrom 255 (drop 0 t)
-unfolding leastOf
-least-holds t = refl
+-- eight_low
+either : (a b c d e f g h : Bool) → (a || b || c || d || e || f || g || h) ≡ (a || (b || (c || (d || (e || (f || (g || (h || false))))))))
+either false false false false false false false false = refl
+either false false false false false false false true = refl
+either false false false false false false true h = refl
+either false false false false false true g h = refl
+either false false false false true f g h = refl
+either false false false true e f g h = refl
+either false false true d e f g h = refl
+either false true c d e f g h = refl
+either true b c d e f g h = refl
 
-module _ (t : Text) (i low x : ℕ) (inv : x ≡ leastFrom low (drop i t)) where
-  pub least-on : (m : ℕ) → i < length t → m ≡ lesserOf low (getD t i 0) → x ≡ leastFrom m (drop (i + 1) t)
-  unfolding leastFrom
-  least-on m h e = rw (inv, drop-here t i h, e)
+pub eight-low : (s : Text) (i : ℕ) → i + 8 ≤ length s
+    → (ltb (getD s i 0) 14 || ltb (getD s (i + 1) 0) 14 || ltb (getD s (i + 2) 0) 14 || ltb (getD s (i + 3) 0) 14 || ltb (getD s (i + 4) 0) 14 || ltb (getD s (i + 5) 0) 14 || ltb (getD s (i + 6) 0) 14 || ltb (getD s (i + 7) 0) 14)
+    ≡ any isLow (take 8 (drop i s))
+unfolding isLow
+eight-low s i h =
+    rw (eight s i h)
+    (either (ltb (getD s i 0) 14) (ltb (getD s (i + 1) 0) 14) (ltb (getD s (i + 2) 0) 14) (ltb (getD s (i + 3) 0) 14) (ltb (getD s (i + 4) 0) 14) (ltb (getD s (i + 5) 0) 14) (ltb (getD s (i + 6) 0) 14) (ltb (getD s (i + 7) 0) 14))
 
-  pub least-end : length t ≤ i → low ≡ x
-  unfolding leastFrom
-  least-end h = rw (inv, drop-past t i h)
+pub ruleset for-eight-low = (needs, eight-low)
 
-pub ruleset for-least = (needs, least-holds, least-on, least-end)
+-- bytes none of which is below 14 end no line
+none-low : (n : ℕ) (t : Text) → n ≤ length t → any isLow (take n t) ≡ false → textLen t ≡ n + textLen (drop n t)
+unfolding isLow
+none-low zero t h l = simp zero-add
+none-low (suc n) [] h l = absurd (omega arith)
+none-low (suc n) (b ∷ t) h l = go (ltb b 14) refl l (none-low n t (omega arith))
+  where
+    go : (x : Bool) → ltb b 14 ≡ x → (x || any isLow (take n t)) ≡ false → (any isLow (take n t) ≡ false → textLen t ≡ n + textLen (drop n t))
+        → textLen (b ∷ t) ≡ suc n + textLen (drop n t)
+    go true e k r = clash (cc)
+    go false e k r = rw (text-more b t (ending-plain b t (ltb-false b 14 e)), r k) (omega arith)
 
--- plain_from: bytes of which the least is 14 or more end no line
-least-le : (low : ℕ) (t : Text) → leastFrom low t ≤ low
-unfolding leastFrom
-least-le low [] = omega arith
-least-le low (b ∷ t) = let h = least-le (lesserOf low b) t in omega (arith, h, lesser-le low b .0)
+module _ (s : Text) (i x : ℕ) (inv : x ≡ i + textLen (drop i s)) (b : Bool) (p : b ≡ any isLow (take 8 (drop i s))) where
+  -- plain_from
+  pub plain-8 : b ≡ false → 8 ≤ length s - i → x ≡ i + 8 + textLen (drop (i + 8) s)
+  plain-8 z h =
+      let r = none-low 8 (drop i s) (omega (arith, length-drop i s)) (sym p ∙ z) in
+      rw (inv, r, drop-drop 8 i s) (omega arith)
 
-plain-run : (n low : ℕ) (t : Text) → n ≤ length t → 14 ≤ leastFrom low (take n t) → textLen t ≡ n + textLen (drop n t)
-unfolding leastFrom
-plain-run zero low t h l = simp zero-add
-plain-run (suc n) low [] h l = absurd (omega arith)
-plain-run (suc n) low (b ∷ t) h l =
-    let k : 14 ≤ b = omega (arith, l, least-le (lesserOf low b) (take n t), lesser-le low b .1) in
-    let r : textLen t ≡ n + textLen (drop n t) = plain-run n (lesserOf low b) t (omega arith) l in
-    rw (text-more b t (ending-plain b t k), r) (omega arith)
+  -- sixteens_from
+  pub plain-16 : (c : Bool) → c ≡ any isLow (take 8 (drop (i + 8) s)) → (b || c) ≡ false → i ≤ length s - 16 → 16 ≤ length s → x ≡ i + 16 + textLen (drop (i + 16) s)
+  plain-16 c q z h l = go b c refl refl z
+    where
+      go : (y w : Bool) → b ≡ y → c ≡ w → (y || w) ≡ false → x ≡ i + 16 + textLen (drop (i + 16) s)
+      go true w e f k = clash (cc)
+      go false true e f k = clash (cc)
+      go false false e f k =
+          let j : i + 8 + 8 ≡ i + 16 = omega arith in
+          let r = none-low 8 (drop (i + 8) s) (omega (arith, length-drop (i + 8) s)) (sym q ∙ f) in
+          let t : textLen (drop (i + 8) s) ≡ 8 + textLen (drop (i + 16) s) = rw (r, drop-drop 8 (i + 8) s, j) in
+          rw (plain-8 e (omega arith), t) (omega arith)
 
-module _ (s : Text) (i x : ℕ) (inv : x ≡ i + textLen (drop i s)) where
-  pub plain-on : (m : ℕ) → i < length s → 16 ≤ length s - i → m ≡ leastOf (take (i + 16 - i) (drop i s)) → 14 ≤ m → x ≡ i + 16 + textLen (drop (i + 16) s)
-  unfolding leastOf
-  plain-on m h f e l =
-      let n : i + 16 - i ≡ 16 = omega arith in
-      let r = plain-run 16 255 (drop i s) (omega (arith, length-drop i s)) (rw (← n, ← e) l) in
-      rw (inv, r, drop-drop 16 i s) (omega arith)
+pub ruleset for-sixteens-from = (needs, plain-16)
 
-pub ruleset for-plain-from = (needs, plain-on)
+pub ruleset for-plain-from = (needs, plain-8)
 
 -- text_end: the end x, from a position i that the loop has come to
 module _ (s : Text) (i x : ℕ) (inv : x ≡ i + textLen (drop i s)) where

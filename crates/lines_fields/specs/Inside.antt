@@ -2,7 +2,7 @@
 -- Assumes nothing.
 use Prim.Native.Nat.{ℕ, suc, _+_, _-_, _≤_, _<_}
 use mathlib.Core.Path.{_≡_}
-use mathlib.Core.Bool.{cond}
+use mathlib.Core.Bool.{Bool, cond}
 use mathlib.Core.List.{List, [], _∷_}
 use lib.ListN.{length, getD, take, drop}
 use lib.Dec.{eqb, ltb}
@@ -22,13 +22,9 @@ pipeLen (b ∷ t) = cond (eqb b pipe) 0 (suc (pipeLen t))
 unfoldable pub lesserOf : ℕ → ℕ → ℕ
 lesserOf a b = cond (ltb b a) b a
 
--- the least of a number and some bytes
-unfoldable pub leastFrom : ℕ → Text → ℕ
-leastFrom low [] = low
-leastFrom low (b ∷ t) = leastFrom (lesserOf low b) t
-
-unfoldable pub leastOf : Text → ℕ
-leastOf t = leastFrom 255 t
+-- a byte that may end a line: it is below 14, as LF and CR are
+unfoldable pub isLow : ℕ → Bool
+isLow b = ltb b 14
 
 -- of a line with text t that starts at position at, the marks below number k stand in m
 pub record Marked (at : ℕ) (t : Text) (k : ℕ) (m : List ℕ) : Type 0 where

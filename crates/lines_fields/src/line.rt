@@ -2,9 +2,10 @@
 use crate::LineAt;
 ghost use mathlib.Core.Path.{_≡_};
 ghost use Prim.Native.Nat.{_≤_, _+_, _-_};
-ghost use lib.ListN.{drop, length};
+ghost use lib.ListN.{take, drop, length};
+ghost use Rattle.house.specs.Text.{any};
 ghost use Rattle.lines_fields.specs.Lines.{endingOf, textLen, LineIs, textAt, linesLen};
-ghost use Rattle.lines_fields.specs.Inside.{lesserOf, leastOf};
+ghost use Rattle.lines_fields.specs.Inside.{lesserOf, isLow};
 
 // How many bytes the line ending at a position has, 0 for none.
 pub(crate) fn ending(file: &[u8], at: usize) -> usize
@@ -41,35 +42,57 @@ pub fn lesser(a: u8, b: u8) -> u8
     a
 }
 
-// The least byte of a text, 255 for none.
-fn least(text: &[u8]) -> u8
-    ensures { λ r. ⌜ r ≡ leastOf (now (text .entry)) ⌝ }
+// A byte below this one may end a line.
+const LOW: u8 = 14;
+
+// Whether one of the eight bytes at a position may end a line.
+fn eight_low(file: &[u8], i: usize) -> bool
+    requires { ⌜ i + 8 ≤ length (now file) ⌝ }
+    ensures { λ r. ⌜ r ≡ any isLow (take 8 (drop i (now (file .entry)))) ⌝ }
 {
-    let mut low: u8 = 255;
-    let mut i = 0;
-    while i < text.len() {
-        low = lesser(low, text[i]);
-        i += 1;
-    }
-    low
+    (file[i] < LOW)
+        | (file[i + 1] < LOW)
+        | (file[i + 2] < LOW)
+        | (file[i + 3] < LOW)
+        | (file[i + 4] < LOW)
+        | (file[i + 5] < LOW)
+        | (file[i + 6] < LOW)
+        | (file[i + 7] < LOW)
 }
 
-// A position up to which no line ends that goes on at another: sixteen bytes at a time are passed over, of which the least is no LF and no CR.
-fn plain_from(file: &[u8], at: usize) -> usize
+// A position up to which no line ends that goes on at another: sixteen bytes at a time are passed over, none of which may end a line.
+fn sixteens_from(file: &[u8], at: usize) -> usize
     ensures { λ r. ⌜ at + textLen (drop at (now (file .entry))) ≡ r + textLen (drop r (now (file .entry))) ⌝ }
 {
     let mut i = at;
-    while i < file.len() {
-        if file.len() - i < 16 {
+    if file.len() < 16 {
+        return i;
+    }
+    let last = file.len() - 16;
+    while i <= last {
+        if eight_low(file, i) | eight_low(file, i + 8) {
             return i;
         }
-        let e = i + 16;
-        if least(&file[i..e]) < 14 {
-            return i;
-        }
-        i = e;
+        i += 16;
     }
     i
+}
+
+// The same, and then eight bytes once.
+fn plain_from(file: &[u8], at: usize) -> usize
+    ensures { λ r. ⌜ at + textLen (drop at (now (file .entry))) ≡ r + textLen (drop r (now (file .entry))) ⌝ }
+{
+    let i = sixteens_from(file, at);
+    if file.len() <= i {
+        return i;
+    }
+    if file.len() - i < 8 {
+        return i;
+    }
+    if eight_low(file, i) {
+        return i;
+    }
+    i + 8
 }
 
 // Where the text of the line that starts at a position ends.
@@ -78,7 +101,7 @@ fn text_end(file: &[u8], at: usize) -> usize
 {
     let mut i = plain_from(file, at);
     while i < file.len() {
-        if file[i] < 14 {
+        if file[i] < LOW {
             let n = ending(file, i);
             if n != 0 {
                 return i;

@@ -5,6 +5,7 @@ use crate::Span;
 use crate::fields::field_at;
 use crate::fields::field_of;
 use crate::line::line_at;
+use house::wide;
 ghost use mathlib.Core.Path.{_≡_};
 ghost use Prim.Native.Nat.{_+_, _≤_};
 ghost use lib.ListN.{drop, length};
@@ -86,13 +87,6 @@ pub fn read_line(file: &[u8], at: usize, marks: &mut [u32]) -> LineAt
     l
 }
 
-// A mark, as a position in the file.
-fn place(mark: u32) -> usize
-    ensures { λ r. ⌜ r ≡ mark ⌝ }
-{
-    mark as usize
-}
-
 // The part of a field that is judged: all of it.
 fn judged_part(start: usize, end: usize) -> Span
     ensures { λ r. ⌜ r ≡ span start end ⌝ }
@@ -114,11 +108,11 @@ pub fn judged_span(file: &[u8], marks: &[u32], f: usize) -> Span
     if MOST_MARKED < f {
         return none;
     }
-    if place(marks[COUNT_MARK]) < f {
+    if wide(marks[COUNT_MARK]) < f {
         return none;
     }
-    let start = place(marks[f - 1]);
-    let stop = place(marks[f]);
+    let start = wide(marks[f - 1]);
+    let stop = wide(marks[f]);
     if stop <= start {
         return none;
     }

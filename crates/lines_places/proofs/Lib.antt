@@ -1,10 +1,15 @@
 pub mod Ranks
 pub mod Order
 pub mod EventLaws
-pub mod AlikeNeeds
+pub mod KeyLaws
+pub mod PackLaws
 pub mod RankLaws
+pub mod TieLaws
+pub mod FoundLaws
+pub mod FillLaws
 pub mod MergeLaws
 pub mod RankedLaws
+pub mod ShortLaws
 pub mod SortLaws
 pub mod SortedLaws
 pub mod OneAnswer

@@ -27,12 +27,14 @@ mod ReasonLaws
 mod FieldNeeds
 mod HeadNeeds
 mod VaccineNeeds
+mod LastNeeds
 mod LineNeeds
 mod LookNeeds
 mod ReadNeeds
 mod WalkNeeds
 mod TurnNeeds
 mod GatherNeeds
+mod PassNeeds
 mod JudgeNeeds
 -- No second answer
 mod OneAnswer

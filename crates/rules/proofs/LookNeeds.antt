@@ -30,7 +30,8 @@ use Rattle.ledger.specs.Ledger.{foundIn}
 use Rattle.rules_definitions.specs.Forms.{text}
 use Rattle.rules_definitions.specs.Blocks.{isInBlock, eventOf}
 use Rattle.rules_forms.proofs.FieldLaws.{text-is}
-use Rattle.rules_walk.specs.Firsts.{soundFour, foundBefore}
+use Rattle.rules_walk.specs.Firsts.{soundFour}
+use Rattle.rules_walk.specs.Repeats.{isNoted}
 use Rattle.rules_walk.proofs.BlockNeeds.{block-four}
 use Rattle.rules.specs.declared.Open.{Open}
 use Rattle.rules.specs.declared.BlockAt.{BlockAt}
@@ -134,13 +135,13 @@ pub ruleset for-block-of = (needs, block-none, block-joined, block-first)
 abbrev facts : Bool → Bool → Bool → Bool → Facts
 facts inb joined repeated live = record { inb = inb; joined = joined; repeated = repeated; live = live }
 
-module _ (file : Text) (l : Rec) (index : List ℕ) (ledger : Text) (n : ℕ) (b : BlockAt) where
-  pub facts-in : (key : Text) (repeated live : Bool) → b .inb ≡ true → key ≡ eventOf l → repeated ≡ foundBefore file index key (b .from) → live ≡ foundIn ledger n key
-      → facts true (b .joined) repeated live ≡ factsBy file l index ledger n b
+module _ (l : Rec) (table ledger : Text) (n : ℕ) (b : BlockAt) where
+  pub facts-in : (key : Text) (repeated live : Bool) → b .inb ≡ true → key ≡ eventOf l → repeated ≡ isNoted table (b .from) → live ≡ foundIn ledger n key
+      → facts true (b .joined) repeated live ≡ factsBy l table ledger n b
   unfolding factsBy
   facts-in key repeated live i e p q = rw (i, p, q, e)
 
-  pub facts-out : b .inb ≡ false → facts false (b .joined) false false ≡ factsBy file l index ledger n b
+  pub facts-out : b .inb ≡ false → facts false (b .joined) false false ≡ factsBy l table ledger n b
   unfolding factsBy
   facts-out i = rw i
 

@@ -92,21 +92,21 @@ module _ (file : Text) (m : List ℕ) (r : Read) (st : State) (b : BlockAt) (fs 
 pub ruleset for-here-of = (needs, read-in, read-next, read-ended, here-is)
 
 -- see
-module _ (file : Text) (m : List ℕ) (r : Read) (a : ReadAs file m r) (st : State) (index : List ℕ) (ledger : Text) (live : ℕ) (b : BlockAt) (fs : Facts) (y : Here) where
-  pub see-is : b ≡ blockBy file (recIn file m) (r .at) (st .block .last) (st .block .run) → fs ≡ factsBy file (recIn file m) index ledger live b
-      → y ≡ hereWith file m r st b fs (y .own) → OwnEnd file (fs .joined) (r .next) (y .own) → HereIs file (r .at) st index ledger live y
+module _ (file : Text) (m : List ℕ) (r : Read) (a : ReadAs file m r) (st : State) (table ledger : Text) (live : ℕ) (b : BlockAt) (fs : Facts) (y : Here) where
+  pub see-is : b ≡ blockBy file (recIn file m) (r .at) (st .block .last) (st .block .run) → fs ≡ factsBy (recIn file m) table ledger live b
+      → y ≡ hereWith file m r st b fs (y .own) → OwnEnd file (fs .joined) (r .next) (y .own) → HereIs file (r .at) st table ledger live y
   see-is p q z o = record { exact = is-here; own-is = own }
     where
       bb : b ≡ blockOf file (r .at) st
       bb = p ∙ ap (λ (x : Rec). blockBy file x (r .at) (st .block .last) (st .block .run)) (rec-is file m r a)
 
-      ff : fs ≡ factsBy file (lineRec file (r .at)) index ledger live (blockOf file (r .at) st)
-      ff = q ∙ ap (λ (x : Rec). factsBy file x index ledger live b) (rec-is file m r a) ∙ ap (factsBy file (lineRec file (r .at)) index ledger live) bb
+      ff : fs ≡ factsBy (lineRec file (r .at)) table ledger live (blockOf file (r .at) st)
+      ff = q ∙ ap (λ (x : Rec). factsBy x table ledger live b) (rec-is file m r a) ∙ ap (factsBy (lineRec file (r .at)) table ledger live) bb
 
       rr : r ≡ readOf file (r .at)
       rr = ap (λ (n : ℕ). record { at = r .at; next = n; kind = r .kind }) (a .next-is) ∙ ap (λ (k : ℕ). record { at = r .at; next = r .at + lineLen (drop (r .at) file); kind = k }) (a .kind-is)
 
-      is-here : y ≡ hereWith file (marksAt file (r .at)) (readOf file (r .at)) st (blockOf file (r .at) st) (factsBy file (lineRec file (r .at)) index ledger live (blockOf file (r .at) st)) (y .own)
+      is-here : y ≡ hereWith file (marksAt file (r .at)) (readOf file (r .at)) st (blockOf file (r .at) st) (factsBy (lineRec file (r .at)) table ledger live (blockOf file (r .at) st)) (y .own)
       is-here =
           z
           ∙ ap (λ (x : List ℕ). hereWith file x r st b fs (y .own)) (a .marked)
@@ -140,8 +140,8 @@ module _ (file : Text) (at : ℕ) (m : List ℕ) (r : Read) (e : r .at ≡ at) (
   pub look-holds : (st : State) → Holds file at st → Holds file (r .at) st
   look-holds st h = subst (λ (n : ℕ). Holds file n st) (sym e) h
 
-  pub look-here : (st : State) (index : List ℕ) (ledger : Text) (live : ℕ) (h : Here) → HereIs file (r .at) st index ledger live h → HereIs file at st index ledger live h
-  look-here st index ledger live h i = subst (λ (n : ℕ). HereIs file n st index ledger live h) e i
+  pub look-here : (st : State) (table ledger : Text) (live : ℕ) (h : Here) → HereIs file (r .at) st table ledger live h → HereIs file at st table ledger live h
+  look-here st table ledger live h i = subst (λ (n : ℕ). HereIs file n st table ledger live h) e i
 
 module _ (file : Text) (m : List ℕ) (at : ℕ) (st : State) (l : LookAt file m at st) where
   pub look-less : at < length file

@@ -69,8 +69,8 @@ module _ (file : Text) (at : ℕ) (less : at < length file) where
 
 -- WHAT IS KNOWN AT IT
 
-module _ (file : Text) (at : ℕ) (st : State) (h : Holds file at st) (less : at < length file) (index : List ℕ) (ledger : Text) (live : ℕ) (y : Here)
-    (i : HereIs file at st index ledger live y) where
+module _ (file : Text) (at : ℕ) (st : State) (h : Holds file at st) (less : at < length file) (table ledger : Text) (live : ℕ) (y : Here)
+    (i : HereIs file at st table ledger live y) where
   abbrev L : Rec
   L = lineRec file at
 

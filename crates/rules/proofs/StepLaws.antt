@@ -28,8 +28,8 @@ use Rattle.rules.proofs.SeenLaws as seen
 use Rattle.rules.proofs.SeenLaws.{joins-open, its-rec, its-field}
 use Rattle.rules.proofs.StartLaws.{no-lines, lines-on, no-open}
 
-module _ (file : Text) (at : ℕ) (st : State) (h : Holds file at st) (less : at < length file) (index : List ℕ) (ledger : Text) (live : ℕ) (y : Here)
-    (i : HereIs file at st index ledger live y) where
+module _ (file : Text) (at : ℕ) (st : State) (h : Holds file at st) (less : at < length file) (table ledger : Text) (live : ℕ) (y : Here)
+    (i : HereIs file at st table ledger live y) where
   abbrev L : Rec
   L = lineRec file at
 
@@ -43,32 +43,32 @@ module _ (file : Text) (at : ℕ) (st : State) (h : Holds file at st) (less : at
   k = y .kind
 
   on : at < y .next
-  on = seen.on file at st h less index ledger live y i
+  on = seen.on file at st h less table ledger live y i
 
   step : linesBefore file (y .next) ≡ L ∷ before
-  step = seen.step file at st h less index ledger live y i
+  step = seen.step file at st h less table ledger live y i
 
   back : (p : ℕ) → p ≤ at → reverse (recs (part file p (y .next))) ≡ L ∷ reverse (recs (part file p at))
-  back = seen.back file at st h less index ledger live y i
+  back = seen.back file at st h less table ledger live y i
 
   kind-of : (j : ℕ) → isKind j L ≡ eqb k j
-  kind-of = seen.kind-of file at st h less index ledger live y i
+  kind-of = seen.kind-of file at st h less table ledger live y i
 
   inb-is : y .facts .inb ≡ isInBlock L
-  inb-is = seen.inb-is file at st h less index ledger live y i
+  inb-is = seen.inb-is file at st h less table ledger live y i
 
   joined-is : y .facts .joined ≡ isInBlock L && joins L (nearestOf (openAfter before))
-  joined-is = seen.joined-is file at st h less index ledger live y i
+  joined-is = seen.joined-is file at st h less table ledger live y i
 
   from-is : y .block ≡ cond (isInBlock L && joins L (nearestOf (openAfter before))) (st .block .run) at
-  from-is = seen.from-is file at st h less index ledger live y i
+  from-is = seen.from-is file at st h less table ledger live y i
 
   ended-step : y .next < length file → whole (take (y .next) file) ≡ true
-  ended-step = seen.ended file at st h less index ledger live y i
+  ended-step = seen.ended file at st h less table ledger live y i
 
   numbered-is : isNumbered L ≡ within IP IA k
   unfolding isNumbered
-  numbered-is = ap (within IP IA) (sym (seen.its-kind file at st h less index ledger live y i))
+  numbered-is = ap (within IP IA) (sym (seen.its-kind file at st h less table ledger live y i))
 
   place-step : nextPlace (st .place) k ≡ suc (howMany isNumbered (linesBefore file (y .next)))
   unfolding nextPlace
@@ -105,14 +105,14 @@ module _ (file : Text) (at : ℕ) (st : State) (h : Holds file at st) (less : at
 
   vaccine-step : text (nearest II (linesBefore file (y .next))) 8 ≡ partOf file (y .vaccine)
   unfolding vaccineBy
-  vaccine-step = rw (step, kind-of II, seen.vaccine-is file at st h less index ledger live y i) (go (eqb k II))
+  vaccine-step = rw (step, kind-of II, seen.vaccine-is file at st h less table ledger live y i) (go (eqb k II))
     where
       go : (t : Bool) → text (cond t L (nearest II before)) 8 ≡ partOf file (cond t (judgedSpan file M 8) (st .known .vaccine))
       go true = its-field file at less 8 (omega arith)
       go false = h .known-is .vaccine-is
 
   day-is : y .day ≡ dayBy L k (st .known .«ii_day») (st .known .«in_day»)
-  day-is = seen.day-is file at st h less index ledger live y i
+  day-is = seen.day-is file at st h less table ledger live y i
 
   ii-day-step : nextDay II (st .known .«ii_day») k (y .day) ≡ dayOf (text (nearest II (linesBefore file (y .next))) 6)
   unfolding nextDay dayBy
@@ -156,7 +156,7 @@ module _ (file : Text) (at : ℕ) (st : State) (h : Holds file at st) (less : at
 
   those-step : (p : ℕ) → p ≤ at
       → reverse (those (isKind II) (recs (part file p (y .next)))) ≡ reverse (those (isKind II) (recs (part file p at)) ++ cond (isKind II L) (L ∷ []) [])
-  those-step p m = rw (seen.rows file at st h less index ledger live y i p m, those-append (isKind II) (recs (part file p at)) (L ∷ []))
+  those-step p m = rw (seen.rows file at st h less table ledger live y i p m, those-append (isKind II) (recs (part file p at)) (L ∷ []))
 
   those-ie : (p : ℕ) → p ≤ at → k ≡ IE → reverse (those (isKind II) (recs (part file p (y .next)))) ≡ reverse (those (isKind II) (recs (part file p at)))
   those-ie p m z = those-step p m ∙ rw (kind-of II, z, append-nil)
@@ -178,8 +178,8 @@ module _ (file : Text) (at : ℕ) (st : State) (h : Holds file at st) (less : at
       go true u m n = h .run-is ∙ sym (those-ie (st .block .run) (h .run-in) (eqb-true k IE m))
       go false true m n =
           sym
-          (those-ii (y .block) (seen.from-back file at st h less index ledger live y i) (sym inb-is ∙ n)
-          ∙ ap (λ (ls : List Rec). L ∷ ls) (sym (seen.block-is file at st h less index ledger live y i)))
+          (those-ii (y .block) (seen.from-back file at st h less table ledger live y i) (sym inb-is ∙ n)
+          ∙ ap (λ (ls : List Rec). L ∷ ls) (sym (seen.block-is file at st h less table ledger live y i)))
       go false false m n = sym (rw (no-recs file (y .next)))
 
   run-in : nextRun (st .block .run) k (y .facts .inb) (y .block) (y .next) ≤ y .next
@@ -188,7 +188,7 @@ module _ (file : Text) (at : ℕ) (st : State) (h : Holds file at st) (less : at
     where
       go : (t u : Bool) → cond t (st .block .run) (cond u (y .block) (y .next)) ≤ y .next
       go true u = omega (arith, h .run-in, on)
-      go false true = omega (arith, seen.from-back file at st h less index ledger live y i, on)
+      go false true = omega (arith, seen.from-back file at st h less table ledger live y i, on)
       go false false = omega arith
 
   run-ended : nextRun (st .block .run) k (y .facts .inb) (y .block) (y .next) < length file → whole (take (nextRun (st .block .run) k (y .facts .inb) (y .block) (y .next)) file) ≡ true
@@ -197,7 +197,7 @@ module _ (file : Text) (at : ℕ) (st : State) (h : Holds file at st) (less : at
     where
       go : (t u : Bool) → cond t (st .block .run) (cond u (y .block) (y .next)) < length file → whole (take (cond t (st .block .run) (cond u (y .block) (y .next))) file) ≡ true
       go true u = h .run-ended
-      go false true = λ z. seen.before-ended file at st h less index ledger live y i
+      go false true = λ z. seen.before-ended file at st h less table ledger live y i
       go false false = ended-step
 
   here-open : OpenIs file (openIn file M) L

@@ -1,6 +1,6 @@
--- What each need of one turn of the walk asks.
+-- One turn of the walk: what is known of a line leads to what is known of the next.
 -- Assumes nothing.
-use mathlib.Core.Path.{_≡_, refl, sym, ap, _∙_, subst}
+use mathlib.Core.Path.{_≡_, refl, sym, ap, _∙_}
 use mathlib.Core.Bool.{Bool, true, false, not, _&&_}
 use mathlib.Core.List.{List, _∷_, _++_}
 use Prim.Native.Nat.{ℕ, _+_, _^_, _≤_, _<_}
@@ -21,7 +21,6 @@ use Rattle.rules_definitions.specs.Findings.{Finding, fieldsFindings}
 use Rattle.rules.specs.declared.State.{State}
 use Rattle.rules.specs.declared.Here.{Here}
 use Rattle.rules.specs.declared.By.{By}
-use Rattle.rules.specs.declared.Turn.{Turn}
 use Rattle.rules_fields.specs.declared.Facts.{Facts}
 use Rattle.rules.specs.Inside.{kept, keep}
 use Rattle.rules.specs.Look.{settingBy}
@@ -29,7 +28,7 @@ use Rattle.rules.specs.Fields.{Looks, Told}
 use Rattle.rules.specs.Under.{withRepeated, lineFindingsBy}
 use Rattle.rules.specs.Walk.{ReadIn, lineRec, Holds, LookAt, hereWith, HereIs}
 use Rattle.rules.specs.Advance.{advanced}
-use Rattle.rules.specs.Turned.{Fits, TurnAt, restOf, TurnIs, JudgedIs}
+use Rattle.rules.specs.Turned.{Turn, TurnAt, restOf, TurnIs}
 use Rattle.rules.proofs.KeepLaws.{keep-append}
 use Rattle.rules.proofs.SeenLaws as seen
 use Rattle.rules.proofs.StepLaws.{holds-step}
@@ -49,9 +48,9 @@ module _ (f : Facts) where
 
 pub ruleset for-begins = (needs, begins-not, begins-joined, begins-first)
 
--- turn
-module _ (file : Text) (at : ℕ) (st : State) (h : Holds file at st) (less : at < length file) (index : List ℕ) (ledger : Text) (live : ℕ) (y : Here)
-    (i : HereIs file at st index ledger live y) where
+-- one turn of the walk
+module _ (file : Text) (at : ℕ) (st : State) (h : Holds file at st) (less : at < length file) (table ledger : Text) (live : ℕ) (y : Here)
+    (i : HereIs file at st table ledger live y) where
   next-is : y .next ≡ at + lineLen (drop at file)
   unfolding hereWith
   next-is = ap (λ (z : Here). z .next) (i .exact)
@@ -64,27 +63,27 @@ module _ (file : Text) (at : ℕ) (st : State) (h : Holds file at st) (less : at
       ∙ ap (λ (n : ℕ). lineRec file at ∷ recs (drop n file)) (sym next-is)
 
   module _ (s : Setting) where
-    rest-step : restOf s file index at (st .n) ≡ lineFindingsBy s file index (here file at st h less index ledger live y i s) ++ restOf s file index (y .next) (st .n + 1)
+    rest-step : restOf s file table at (st .n) ≡ lineFindingsBy s file table (here file at st h less table ledger live y i s) ++ restOf s file table (y .next) (st .n + 1)
     unfolding restOf
-    rest-step = rw (rest-on, seen.step file at st h less index ledger live y i, add-one)
+    rest-step = rw (rest-on, seen.step file at st h less table ledger live y i, add-one)
 
-    its-findings : lineFindingsBy s file index (here file at st h less index ledger live y i s)
-        ≡ fieldsFindings s (st .n) (view file at st h less index ledger live y i s) 1 (length (view file at st h less index ledger live y i s .line .fields))
+    its-findings : lineFindingsBy s file table (here file at st h less table ledger live y i s)
+        ≡ fieldsFindings s (st .n) (view file at st h less table ledger live y i s) 1 (length (view file at st h less table ledger live y i s .line .fields))
     unfolding lineFindingsBy withRepeated seenAt
     its-findings = refl
 
     abbrev its : Seen
-    its = view file at st h less index ledger live y i s
+    its = view file at st h less table ledger live y i s
 
     renumbered : fieldsFindings s (st .n) its 1 (length (its .line .fields)) ≡ fieldsFindings s (y .n) its 1 (length (its .line .fields))
-    renumbered = ap (λ (n : ℕ). fieldsFindings s n its 1 (length (its .line .fields))) (sym (number-is file at st h less index ledger live y i s))
+    renumbered = ap (λ (n : ℕ). fieldsFindings s n its 1 (length (its .line .fields))) (sym (number-is file at st h less table ledger live y i s))
 
     abbrev left : List Finding
-    left = restOf s file index (y .next) (st .n + 1)
+    left = restOf s file table (y .next) (st .n + 1)
 
     pub turn-left : (c d : ℕ) (a z : Text)
-        → kept d z ≡ keep (fieldsFindings s (y .n) (view file at st h less index ledger live y i s) 1 (length (view file at st h less index ledger live y i s .line .fields))) (kept c a)
-        → keep (restOf s file index at (st .n)) (kept c a) ≡ keep (restOf s file index (y .next) (st .n + 1)) (kept d z)
+        → kept d z ≡ keep (fieldsFindings s (y .n) (view file at st h less table ledger live y i s) 1 (length (view file at st h less table ledger live y i s .line .fields))) (kept c a)
+        → keep (restOf s file table at (st .n)) (kept c a) ≡ keep (restOf s file table (y .next) (st .n + 1)) (kept d z)
     turn-left c d a z m =
         ap (λ (xs : List Finding). keep xs (kept c a)) (rest-step ∙ ap (λ (xs : List Finding). xs ++ left) (its-findings ∙ renumbered))
         ∙ keep-append (fieldsFindings s (y .n) its 1 (length (its .line .fields))) left (kept c a)
@@ -97,15 +96,11 @@ module _ (file : Text) (m₀ : List ℕ) (t : Turn) (g : TurnAt file m₀ t) whe
   less : t .at < length file
   less = g .looks .less
 
-  pub turn-looks : LookAt file m₀ (t .at) (t .st)
-  turn-looks = g .looks
+  pub turn-numbers : (t .st .n + 1 < 2 ^ 64) × (t .st .place + 1 < 2 ^ 64) × (t .st .«not_immunized» + 1 < 2 ^ 64)
+  turn-numbers = (omega (arith, h .n-small, less, g .looks .short), omega (arith, h .place-small, less, g .looks .short), omega (arith, h .not-immunized-small, less, g .looks .short))
 
-  pub turn-fits : Fits t
-  turn-fits =
-      record {
-        numbers = (omega (arith, h .n-small, less, g .looks .short), omega (arith, h .place-small, less, g .looks .short), omega (arith, h .not-immunized-small, less, g .looks .short));
-        findings = omega (arith, g .few, less, g .looks .short);
-      }
+  pub turn-findings : t .count + 84 < 2 ^ 64
+  turn-findings = omega (arith, g .few, less, g .looks .short)
 
   module _ (m : List ℕ) (e : m ≡ marksAt file (t .at)) where
     pub turn-read : ReadIn file m
@@ -113,7 +108,7 @@ module _ (file : Text) (m₀ : List ℕ) (t : Turn) (g : TurnAt file m₀ t) whe
         let z : getD m 0 0 ≡ t .at = ap (λ (x : List ℕ). getD x 0 0) e ∙ seen.its-mark file (t .at) less in
         record { inside = omega (arith, z, less); marked = e ∙ ap (marksAt file) (sym z) }
 
-    module _ (index : List ℕ) (ledger : Text) (by : By) (y : Here) (i : HereIs file (t .at) (t .st) index ledger (by .live) y) (book : Text) where
+    module _ (table ledger : Text) (by : By) (y : Here) (i : HereIs file (t .at) (t .st) table ledger (by .live) y) (book : Text) where
       abbrev S : Setting
       S = settingBy (by .today) book (by .sections) (foundIn ledger (by .live))
 
@@ -125,46 +120,22 @@ module _ (file : Text) (m₀ : List ℕ) (t : Turn) (g : TurnAt file m₀ t) whe
       unfolding settingBy
       lives = refl
 
-      turned-is : (area after : Text) (c : ℕ) (st2 : State) (f : Bool)
+      pub turned-is : (area after : Text) (c : ℕ) (st2 : State) (f : Bool)
           → ((s : Setting) (v : Seen) → Told file m y book by s v → kept c after ≡ keep (fieldsFindings s (y .n) v 1 (length (v .line .fields))) (kept (t .count) area))
           → c ≤ t .count + 84 → st2 ≡ advanced file m (t .st) y → f ≡ y .facts .inb && not (y .facts .joined)
-          → TurnIs (settingBy (by .today) book (by .sections) (foundIn ledger (by .live))) file index t area (record { at = y .next; st = st2; count = c; first = f }) after
+          → TurnIs (settingBy (by .today) book (by .sections) (foundIn ledger (by .live))) file table t area (record { at = y .next; st = st2; count = c; first = f }) after
       unfolding advanced
       turned-is area after c st2 f j k z b =
           record {
-            holds = rw (z, e) (holds-step file (t .at) (t .st) h less index ledger (by .live) y i);
-            next-is = next-is file (t .at) (t .st) h less index ledger (by .live) y i;
-            on = seen.on file (t .at) (t .st) h less index ledger (by .live) y i;
-            upto = seen.upto file (t .at) (t .st) h less index ledger (by .live) y i;
-            few = omega (arith, g .few, seen.on file (t .at) (t .st) h less index ledger (by .live) y i);
+            holds = rw (z, e) (holds-step file (t .at) (t .st) h less table ledger (by .live) y i);
+            next-is = next-is file (t .at) (t .st) h less table ledger (by .live) y i;
+            on = seen.on file (t .at) (t .st) h less table ledger (by .live) y i;
+            upto = seen.upto file (t .at) (t .st) h less table ledger (by .live) y i;
+            few = omega (arith, g .few, seen.on file (t .at) (t .st) h less table ledger (by .live) y i);
             left =
                 rw z
-                (turn-left file (t .at) (t .st) h less index ledger (by .live) y i S (t .count) c area after
-                (rw e at (j S (view file (t .at) (t .st) h less index ledger (by .live) y i S)) (told file (t .at) (t .st) h less index ledger (by .live) y i S book by looks lives)));
-            first-is = seen.begins-is file (t .at) (t .st) h less index ledger (by .live) y i f b;
-            before-is = sym (seen.step file (t .at) (t .st) h less index ledger (by .live) y i);
+                (turn-left file (t .at) (t .st) h less table ledger (by .live) y i S (t .count) c area after
+                (rw e at (j S (view file (t .at) (t .st) h less table ledger (by .live) y i S)) (told file (t .at) (t .st) h less table ledger (by .live) y i S book by looks lives)));
+            first-is = seen.begins-is file (t .at) (t .st) h less table ledger (by .live) y i f b;
+            before-is = sym (seen.step file (t .at) (t .st) h less table ledger (by .live) y i);
           }
-
-      pub turn-is : (area after : Text) (r : Turn) → JudgedIs file m y t book by area r after
-          → TurnIs (settingBy (by .today) book (by .sections) (foundIn ledger (by .live))) file index t area r after
-      turn-is area after r j =
-          subst (λ (x : Turn). TurnIs S file index t area x after) (sym (j .exact))
-          (turned-is area after (r .count) (advanced file m (t .st) y) (y .facts .inb && not (y .facts .joined)) (j .findings) (j .few) refl refl)
-
-pub ruleset for-turn = (needs, turn-looks, turn-fits, turn-read, turn-is)
-
--- judge_and_advance
-module _ (t : Turn) (g : Fits t) where
-  pub fits-numbers : (t .st .n + 1 < 2 ^ 64) × (t .st .place + 1 < 2 ^ 64) × (t .st .«not_immunized» + 1 < 2 ^ 64)
-  fits-numbers = g .numbers
-
-  pub fits-findings : t .count + 84 < 2 ^ 64
-  fits-findings = g .findings
-
-pub judged-is : (file : Text) (m : List ℕ) (y : Here) (t : Turn) (book : Text) (by : By) (area after : Text) (c : ℕ) (st : State) (f : Bool)
-    → ((s : Setting) (v : Seen) → Told file m y book by s v → kept c after ≡ keep (fieldsFindings s (y .n) v 1 (length (v .line .fields))) (kept (t .count) area))
-    → c ≤ t .count + 84 → st ≡ advanced file m (t .st) y → f ≡ y .facts .inb && not (y .facts .joined)
-    → JudgedIs file m y t book by area (record { at = y .next; st = st; count = c; first = f }) after
-judged-is file m y t book by area after c st f j k p q = record { findings = j; few = k; exact = rw (p, q) }
-
-pub ruleset for-judge-and-advance = (needs, fits-numbers, fits-findings, judged-is)

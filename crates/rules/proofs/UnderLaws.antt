@@ -1,28 +1,26 @@
--- The findings of a file by what an index says: of the file's own they are the file's; of an empty one too, where no two blocks name one
--- event, and no more elsewhere.
+-- The findings of a file by a table: by that of its own index they are the file's; by an empty one too, where no two blocks name one event, and
+-- no more elsewhere.
 -- Assumes nothing.
 use mathlib.Core.Path.{_≡_, refl, sym, ap, _∙_}
 use mathlib.Core.Bool.{Bool, true, false, _&&_}
 use mathlib.Core.Logic.{inl, inr}
 use mathlib.Core.List.{List, [], _∷_, _++_}
-use Prim.Native.Nat.{ℕ, _≤_}
+use Prim.Native.Nat.{ℕ, _*_, _≤_}
 use native.Mathlib.Omega.{arith}
-use lib.ListN.{length, length-append}
+use lib.ListN.{length, replicate, length-append}
 use Rattle.house.specs.Text.{Text, joined}
 use Rattle.house.specs.Members.{In}
-use Rattle.house.specs.Search.{binarySearch}
 use Rattle.lines.specs.Events.{eventsAt, ascends}
 use Rattle.lines.specs.Records.{Rec}
-use Rattle.ledger.specs.Ledger.{Event}
 use Rattle.rules_definitions.specs.Contexts.{Context, contextsIn}
-use Rattle.rules_definitions.specs.Blocks.{isInBlock, eventOf, beforeBlock, isRepeated}
+use Rattle.rules_definitions.specs.Blocks.{isInBlock, isRepeated}
 use Rattle.rules_definitions.specs.Seen.{Setting, Seen, seenAt}
 use Rattle.rules_definitions.specs.Findings.{Finding, fieldsFindings, lineFindings, findingsOf}
-use Rattle.rules_walk.specs.Firsts.{startAfter, indexOf, foundBefore}
+use Rattle.rules_walk.specs.Firsts.{indexOf}
+use Rattle.rules_walk.specs.Repeats.{repeatsIn, isNoted, noteAll}
 use Rattle.rules_walk.proofs.PassLaws.{place-passed}
-use Rattle.rules_walk.proofs.NamedLaws.{rule15-named}
-use Rattle.rules_walk.proofs.FindLaws.{found-named}
 use Rattle.rules_walk.proofs.OnceLaws.{once-new}
+use Rattle.rules_walk.proofs.NotedLaws.{noted-repeated}
 use Rattle.rules.specs.Under.{withRepeated, repeatedBy, seenBy, lineFindingsBy, findingsUnder}
 use Rattle.rules.proofs.RepeatLaws.{alone-findings}
 
@@ -41,28 +39,30 @@ seen-same : (s : Setting) (h : Context) (r : Bool) → r ≡ isRepeated (h .line
 unfolding withRepeated seenAt
 seen-same s h r e = rw e
 
-module _ (s : Setting) (file : Text) (index : List ℕ) where
-  line-same : (h : Context) → repeatedBy file index (h .line) (h .before) ≡ isRepeated (h .line) (h .before) → lineFindingsBy s file index h ≡ lineFindings s h
+module _ (s : Setting) (file table : Text) where
+  line-same : (h : Context) → repeatedBy file table (h .line) (h .before) ≡ isRepeated (h .line) (h .before) → lineFindingsBy s file table h ≡ lineFindings s h
   unfolding lineFindingsBy lineFindings
-  line-same h e = ap (λ (v : Seen). fieldsFindings s (h .number) v 1 (length (h .line .fields))) (seen-same s h (repeatedBy file index (h .line) (h .before)) e)
+  line-same h e = ap (λ (v : Seen). fieldsFindings s (h .number) v 1 (length (h .line .fields))) (seen-same s h (repeatedBy file table (h .line) (h .before)) e)
 
-  under-same : ((h : Context) → In h (contextsIn file) → repeatedBy file index (h .line) (h .before) ≡ isRepeated (h .line) (h .before)) → findingsUnder s file index ≡ findingsOf s file
+  under-same : ((h : Context) → In h (contextsIn file) → repeatedBy file table (h .line) (h .before) ≡ isRepeated (h .line) (h .before)) → findingsUnder s file table ≡ findingsOf s file
   unfolding findingsUnder findingsOf
-  under-same e = joined-same (lineFindingsBy s file index) (lineFindings s) (contextsIn file) (λ h m. line-same h (e h m))
+  under-same e = joined-same (lineFindingsBy s file table) (lineFindings s) (contextsIn file) (λ h m. line-same h (e h m))
 
--- by the file's own index
-own-says : (file : Text) (h : Context) → In h (contextsIn file) → repeatedBy file (indexOf file) (h .line) (h .before) ≡ isRepeated (h .line) (h .before)
+-- by that of the file's own index, if it is long enough
+pub under-noted : (s : Setting) (file : Text) (index : List ℕ) (clear : Text) → clear ≡ replicate (length clear) 0 → length file ≤ 16 * length clear → index ≡ indexOf file
+    → findingsUnder s file (noteAll (repeatsIn file index) clear) ≡ findingsOf s file
 unfolding repeatedBy
-own-says file h m =
-    ap (λ (b : Bool). isInBlock (h .line) && b) (found-named file (eventOf (h .line)) (startAfter file (beforeBlock (h .line) (h .before))))
-    ∙ sym (rule15-named file (h .line) (h .before) (place-passed file h m .2))
-
-pub under-index : (s : Setting) (file : Text) (index : List ℕ) → index ≡ indexOf file → findingsUnder s file index ≡ findingsOf s file
-under-index s file index e = ap (findingsUnder s file) e ∙ under-same s file (indexOf file) (own-says file)
+under-noted s file index clear c h e =
+    ap (findingsUnder s file) same
+    ∙ under-same s file (noteAll (repeatsIn file (indexOf file)) (replicate (length clear) 0))
+    (λ k m. noted-repeated file (length clear) h (k .line) (k .before) (place-passed file k m))
+  where
+    same : noteAll (repeatsIn file index) clear ≡ noteAll (repeatsIn file (indexOf file)) (replicate (length clear) 0)
+    same = ap (λ (l : List ℕ). noteAll (repeatsIn file l) clear) e ∙ ap (noteAll (repeatsIn file (indexOf file))) c
 
 -- by an empty one
 none-says : (file : Text) (l : Rec) (before : List Rec) → repeatedBy file [] l before ≡ false
-unfolding repeatedBy foundBefore binarySearch
+unfolding repeatedBy isNoted
 none-says file l before = go (isInBlock l)
   where
     go : (b : Bool) → b && false ≡ false

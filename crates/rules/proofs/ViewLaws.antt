@@ -22,7 +22,8 @@ use Rattle.rules_definitions.specs.Blocks.{isInBlock, eventOf, joinsOpen, befor
 use Rattle.rules_definitions.specs.Seen.{Setting, Seen, seenAt}
 use Rattle.rules_definitions.specs.Codes.{dayField, dayIsSound, recordDay}
 use Rattle.rules_forms.proofs.SoundLaws.{ip-25, ii-6, in-5}
-use Rattle.rules_walk.specs.Firsts.{startAfter, foundBefore}
+use Rattle.rules_walk.specs.Firsts.{startAfter}
+use Rattle.rules_walk.specs.Repeats.{isNoted}
 use Rattle.rules_walk.proofs.StartLaws.{start-upto}
 use Rattle.rules.specs.declared.State.{State}
 use Rattle.rules.specs.declared.Here.{Here}
@@ -71,8 +72,8 @@ module _ (v : Seen) (k j f : ℕ) (e : v .line .kind ≡ k) (a : headKind k ≡ 
         number-is = λ z. rw (e, a, b) (day-number (text (v .head) f) z);
       }
 
-module _ (file : Text) (at : ℕ) (st : State) (h : Holds file at st) (less : at < length file) (index : List ℕ) (ledger : Text) (live : ℕ) (y : Here)
-    (i : HereIs file at st index ledger live y) (s : Setting) where
+module _ (file : Text) (at : ℕ) (st : State) (h : Holds file at st) (less : at < length file) (table ledger : Text) (live : ℕ) (y : Here)
+    (i : HereIs file at st table ledger live y) (s : Setting) where
   abbrev L : Rec
   L = lineRec file at
 
@@ -87,15 +88,15 @@ module _ (file : Text) (at : ℕ) (st : State) (h : Holds file at st) (less : at
   here = record { number = st .n; before = before; line = L; after = recs (drop (y .next) file) }
 
   abbrev pub view : Seen
-  view = seenBy s file index here
+  view = seenBy s file table here
 
   kind-is : L .kind ≡ k
-  kind-is = sym (seen.its-kind file at st h less index ledger live y i)
+  kind-is = sym (seen.its-kind file at st h less table ledger live y i)
 
   -- its head
   head-of : headOf L before ≡ cond (eqb k IE) (nearest II before) (cond (eqb k IA) (nearest IN before) L)
   unfolding headOf
-  head-of = rw (seen.kind-of file at st h less index ledger live y i IE, seen.kind-of file at st h less index ledger live y i IA)
+  head-of = rw (seen.kind-of file at st h less table ledger live y i IE, seen.kind-of file at st h less table ledger live y i IA)
 
   head-ii : k ≡ 4 → L ≡ headOf L before
   head-ii m = sym (head-of ∙ rw m)
@@ -113,7 +114,7 @@ module _ (file : Text) (at : ℕ) (st : State) (h : Holds file at st) (less : at
   unfolding vaccineBy
   vaccine-told w =
       let p = both (leb 4 k) (leb k 5) w in
-      rw (head-of, seen.vaccine-is file at st h less index ledger live y i) (go (eqb k II) (eqb k IE) (eqb k IA) refl refl refl (leb-true 4 k (p .0)) (leb-true k 5 (p .1)))
+      rw (head-of, seen.vaccine-is file at st h less table ledger live y i) (go (eqb k II) (eqb k IE) (eqb k IA) refl refl refl (leb-true 4 k (p .0)) (leb-true k 5 (p .1)))
     where
       go : (a b c : Bool) → eqb k II ≡ a → eqb k IE ≡ b → eqb k IA ≡ c → 4 ≤ k → k ≤ 5
           → text (cond b (nearest II before) (cond c (nearest IN before) L)) 8 ≡ partOf file (cond a (judgedSpan file (marksAt file at) 8) (st .known .vaccine))
@@ -130,7 +131,7 @@ module _ (file : Text) (at : ℕ) (st : State) (h : Holds file at st) (less : at
       go (eqb k II) (eqb k IE) (eqb k IN) refl refl refl (leb-true 4 k (p .0)) (leb-true k 7 (p .1))
     where
       is : y .day ≡ dayBy L k (st .known .«ii_day») (st .known .«in_day»)
-      is = seen.day-is file at st h less index ledger live y i
+      is = seen.day-is file at st h less table ledger live y i
 
       by : (d : Text) (f : ℕ) → y .day ≡ dayOf (text (headOf L before) f) → DayIs (dayOf (text (headOf L before) f)) view → DayIs (y .day) view
       by d f e x = subst (λ (z : Day). DayIs z view) (sym e) x
@@ -153,23 +154,23 @@ module _ (file : Text) (at : ℕ) (st : State) (h : Holds file at st) (less : at
   start-is : startAfter file (beforeBlock L before) ≡ y .block
   unfolding linesBefore
   start-is =
-      ap (startAfter file) (seen.outside file at st h less index ledger live y i)
-      ∙ start-upto file (y .block) (omega (arith, seen.from-back file at st h less index ledger live y i)) (seen.before-ended file at st h less index ledger live y i)
+      ap (startAfter file) (seen.outside file at st h less table ledger live y i)
+      ∙ start-upto file (y .block) (omega (arith, seen.from-back file at st h less table ledger live y i)) (seen.before-ended file at st h less table ledger live y i)
 
-  facts-repeated : y .facts .repeated ≡ y .facts .inb && foundBefore file index (eventOf L) (y .block)
+  facts-repeated : y .facts .repeated ≡ y .facts .inb && isNoted table (y .block)
   unfolding hereWith factsBy
-  facts-repeated = ap (λ (z : Here). z .facts .repeated) (i .exact) ∙ sym (ap (λ (z : Here). z .facts .inb && foundBefore file index (eventOf L) (z .block)) (i .exact))
+  facts-repeated = ap (λ (z : Here). z .facts .repeated) (i .exact) ∙ sym (ap (λ (z : Here). z .facts .inb && isNoted table (z .block)) (i .exact))
 
   facts-live : y .facts .live ≡ y .facts .inb && foundIn ledger live (eventOf L)
   unfolding hereWith factsBy
   facts-live = ap (λ (z : Here). z .facts .live) (i .exact) ∙ sym (ap (λ (z : Here). z .facts .inb && foundIn ledger live (eventOf L)) (i .exact))
 
-  repeated-told : repeatedBy file index L before ≡ y .facts .repeated
+  repeated-told : repeatedBy file table L before ≡ y .facts .repeated
   unfolding repeatedBy
-  repeated-told = rw (start-is, ← seen.inb-is file at st h less index ledger live y i) (sym facts-repeated)
+  repeated-told = rw (start-is, ← seen.inb-is file at st h less table ledger live y i) (sym facts-repeated)
 
   live-told : s .live ≡ foundIn ledger live → isInBlock L ≡ true → s .live (eventOf L) ≡ y .facts .live
-  live-told lv b = ap (λ (g : Event → Bool). g (eventOf L)) lv ∙ sym (facts-live ∙ rw (seen.inb-is file at st h less index ledger live y i, b))
+  live-told lv b = ap (λ (g : Event → Bool). g (eventOf L)) lv ∙ sym (facts-live ∙ rw (seen.inb-is file at st h less table ledger live y i, b))
 
   -- the rest of it is as the state has it
   at-is : y .at ≡ at
@@ -205,9 +206,9 @@ module _ (file : Text) (at : ℕ) (st : State) (h : Holds file at st) (less : at
     unfolding withRepeated seenAt
     blocked =
         record {
-          inb-is = sym (seen.inb-is file at st h less index ledger live y i);
-          joined-is = sym (seen.joined-is file at st h less index ledger live y i);
-          block-is = seen.block-is file at st h less index ledger live y i ∙ ap (λ (n : ℕ). reverse (those (isKind II) (recs (part file (y .block) n)))) (sym at-is);
+          inb-is = sym (seen.inb-is file at st h less table ledger live y i);
+          joined-is = sym (seen.joined-is file at st h less table ledger live y i);
+          block-is = seen.block-is file at st h less table ledger live y i ∙ ap (λ (n : ℕ). reverse (those (isKind II) (recs (part file (y .block) n)))) (sym at-is);
           own-is = i .own-is .joined-own;
           first-is = h .first-is .are ∙ ap (λ (p : Span). reverse (recs (partOf file p))) (sym first-is);
           repeated-is = repeated-told;

@@ -15,6 +15,7 @@ use Rattle.rules_definitions.specs.Forms.{text}
 use Rattle.rules_definitions.specs.Seen.{Setting, Seen}
 use Rattle.rules_definitions.specs.Codes.{dayIsSound, recordDay}
 use Rattle.rules_definitions.specs.Rules.{Numbered, rulesAt, brokenBy, brokenAt}
+use Rattle.rules_definitions.specs.Findings.{fieldsFindings}
 use Rattle.rules_forms.specs.FieldLeaves.{relaxedIf}
 use Rattle.rules_plain.specs.PlainFields.{bornOf}
 use Rattle.rules_fields.specs.declared.Broken.{Broken}
@@ -23,7 +24,7 @@ use Rattle.book.specs.LookUp.{knownBy, inForceBy}
 use Rattle.rules_fields.specs.Fields.{ii8Vaccine}
 use Rattle.rules.specs.declared.By.{By}
 use Rattle.rules.specs.declared.Here.{Here}
-use Rattle.rules.specs.Inside.{listed}
+use Rattle.rules.specs.Inside.{kept, keep, listed}
 
 -- a rule after the first two
 abbrev pub isLater : Numbered → Bool
@@ -76,6 +77,18 @@ pub record Told (file : Text) (marks : List ℕ) (h : Here) (book : Text) (by : 
 -- r are the rules that are broken at field f
 pub record Judges (file : Text) (marks : List ℕ) (h : Here) (book : Text) (by : By) (f : ℕ) (r : Broken) : Type 0 where
   pub are : (s : Setting) (v : Seen) → Told file marks h book by s v → listed r ≡ brokenAt s v f
+
+-- no rule at a record of kind k asks anything of the book
+pub record Bookless (k : ℕ) : Type 0 where
+  pub no-ii : k ≡ II → ⊥
+  pub no-ie : k ≡ IE → ⊥
+  pub no-in : k ≡ IN → ⊥
+  pub no-ia : k ≡ IA → ⊥
+
+-- the findings of all fields of a line are put to the others
+pub record JudgesLine (file : Text) (marks : List ℕ) (h : Here) (book : Text) (by : By) (count : ℕ) (area : Text) (r : ℕ) (after : Text) : Type 0 where
+  pub are : (s : Setting) (v : Seen) → Told file marks h book by s v → kept r after ≡ keep (fieldsFindings s (h .n) v 1 (length (v .line .fields))) (kept count area)
+  pub few : r ≤ count + 84
 
 -- the event of the II with these marks is relaxed
 unfoldable pub relaxedIn : Text → List ℕ → Bool

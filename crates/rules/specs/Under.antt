@@ -1,5 +1,5 @@
--- The findings of a file by what a look-up in an index says of events named before: of the file's own index they are the file's findings
--- (proofs/UnderLaws), and of one that is empty all of them but for rule 15.
+-- The findings of a file by a table that notes the blocks whose events were named before: by that of the file's own index they are the file's
+-- findings (proofs/UnderLaws), and by one that is empty all of them but for rule 15.
 -- Assumes nothing.
 use Prim.Native.Nat.{ℕ}
 use mathlib.Core.Bool.{Bool, _&&_}
@@ -8,10 +8,11 @@ use lib.ListN.{length}
 use Rattle.house.specs.Text.{Text, joined}
 use Rattle.lines.specs.Records.{Rec}
 use Rattle.rules_definitions.specs.Contexts.{Context, contextsIn}
-use Rattle.rules_definitions.specs.Blocks.{isInBlock, eventOf, beforeBlock}
+use Rattle.rules_definitions.specs.Blocks.{isInBlock, beforeBlock}
 use Rattle.rules_definitions.specs.Seen.{Setting, Seen, seenAt}
 use Rattle.rules_definitions.specs.Findings.{Finding, fieldsFindings}
-use Rattle.rules_walk.specs.Firsts.{startAfter, foundBefore}
+use Rattle.rules_walk.specs.Firsts.{startAfter}
+use Rattle.rules_walk.specs.Repeats.{isNoted}
 
 -- what is seen from a line, but for whether an earlier block names its event
 unfoldable pub withRepeated : Bool → Seen → Seen
@@ -31,16 +32,16 @@ withRepeated repeated v =
       live = v .live;
     }
 
--- an index names the line's event before its block
-unfoldable pub repeatedBy : Text → List ℕ → Rec → List Rec → Bool
-repeatedBy file index l before = isInBlock l && foundBefore file index (eventOf l) (startAfter file (beforeBlock l before))
+-- a table notes the start of the line's block
+unfoldable pub repeatedBy : Text → Text → Rec → List Rec → Bool
+repeatedBy file table l before = isInBlock l && isNoted table (startAfter file (beforeBlock l before))
 
--- what is seen from a line, by an index
-abbrev pub seenBy : Setting → Text → List ℕ → Context → Seen
-seenBy s file index h = withRepeated (repeatedBy file index (h .line) (h .before)) (seenAt s h)
+-- what is seen from a line, by a table
+abbrev pub seenBy : Setting → Text → Text → Context → Seen
+seenBy s file table h = withRepeated (repeatedBy file table (h .line) (h .before)) (seenAt s h)
 
-unfoldable pub lineFindingsBy : Setting → Text → List ℕ → Context → List Finding
-lineFindingsBy s file index h = fieldsFindings s (h .number) (seenBy s file index h) 1 (length (h .line .fields))
+unfoldable pub lineFindingsBy : Setting → Text → Text → Context → List Finding
+lineFindingsBy s file table h = fieldsFindings s (h .number) (seenBy s file table h) 1 (length (h .line .fields))
 
-unfoldable pub findingsUnder : Setting → Text → List ℕ → List Finding
-findingsUnder s file index = joined (lineFindingsBy s file index) (contextsIn file)
+unfoldable pub findingsUnder : Setting → Text → Text → List Finding
+findingsUnder s file table = joined (lineFindingsBy s file table) (contextsIn file)

@@ -16,7 +16,7 @@ use Rattle.lines.specs.Records.{Rec, IP, II, IE, IN, IA, isKind, recOf, recs}
 use Rattle.lines.specs.Inside.{whole}
 use Rattle.lines_fields.specs.Inside.{part}
 use Rattle.ledger.specs.Ledger.{foundIn}
-use Rattle.rules_walk.specs.Firsts.{foundBefore}
+use Rattle.rules_walk.specs.Repeats.{isNoted}
 use Rattle.rules_definitions.specs.Forms.{text}
 use Rattle.rules_definitions.specs.Contexts.{contextsFrom, nearest, isNumbered}
 use Rattle.rules_definitions.specs.Blocks.{isInBlock, eventOf, nearestOf, openAfter, hasSecond, firstOpen, beforeOpen, begins}
@@ -29,7 +29,6 @@ use Rattle.rules.specs.declared.State.{State}
 use Rattle.rules.specs.declared.Read.{Read}
 use Rattle.rules.specs.declared.BlockAt.{BlockAt}
 use Rattle.rules.specs.declared.Here.{Here}
-use Rattle.rules.specs.declared.Turn.{Turn}
 use Rattle.rules_fields.specs.declared.Facts.{Facts}
 use Rattle.rules_fields.specs.declared.Day.{Day}
 use Rattle.rules.specs.Inside.{kept, keep}
@@ -146,13 +145,13 @@ blockBy file l at o run =
       from = cond (isInBlock l && joinsOpenBy file l o) run at;
     }
 
--- the index and the ledger are asked of a line in a block alone
-unfoldable pub factsBy : Text → Rec → List ℕ → Text → ℕ → BlockAt → Facts
-factsBy file l index ledger n b =
+-- the table and the ledger are asked of a line in a block alone
+unfoldable pub factsBy : Rec → Text → Text → ℕ → BlockAt → Facts
+factsBy l table ledger n b =
     record {
       inb = b .inb;
       joined = b .joined;
-      repeated = b .inb && foundBefore file index (eventOf l) (b .from);
+      repeated = b .inb && isNoted table (b .from);
       live = b .inb && foundIn ledger n (eventOf l);
     }
 
@@ -202,10 +201,10 @@ readOf file at = record { at = at; next = at + lineLen (drop at file); kind = li
 abbrev pub blockOf : Text → ℕ → State → BlockAt
 blockOf file at st = blockBy file (lineRec file at) at (st .block .last) (st .block .run)
 
--- what is known of the line that starts at a position, by the state there, an index and a ledger
-pub record HereIs (file : Text) (at : ℕ) (st : State) (index : List ℕ) (ledger : Text) (live : ℕ) (h : Here) : Type 0 where
+-- what is known of the line that starts at a position, by the state there, a table and a ledger
+pub record HereIs (file : Text) (at : ℕ) (st : State) (table ledger : Text) (live : ℕ) (h : Here) : Type 0 where
   pub exact : h ≡ hereWith file (marksAt file at) (readOf file at) st (blockOf file at st)
-      (factsBy file (lineRec file at) index ledger live (blockOf file at st)) (h .own)
+      (factsBy (lineRec file at) table ledger live (blockOf file at st)) (h .own)
   pub own-is : OwnEnd file (h .facts .joined) (h .next) (h .own)
 
 -- a line starts at a position, and the state is what it is there

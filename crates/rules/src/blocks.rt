@@ -1,4 +1,4 @@
-// The block of a line: whether the line is in one, whether it joins the open one, and what the index and the ledger say of its event.
+// The block of a line: whether the line is in one, whether it joins the open one, and what a table of repeats and the ledger say of its event.
 use crate::BlockAt;
 use crate::Open;
 use house::Key;
@@ -114,18 +114,18 @@ pub(crate) fn block_of(
 pub(crate) fn facts_of(
     file: &[u8],
     marks: &[u32],
-    index: &[u32],
+    table: &[u8],
     ledger: &[u8],
     live: usize,
     b: BlockAt,
 ) -> Facts
     requires { ⌜ ReadIn (now file) (now marks) ⌝ }
-    ensures { λ r. ⌜ r ≡ factsBy (now (file .entry)) (recIn (now (file .entry)) (now (marks .entry))) (now (index .entry)) (now (ledger .entry)) live b ⌝ }
+    ensures { λ r. ⌜ r ≡ factsBy (recIn (now (file .entry)) (now (marks .entry))) (now (table .entry)) (now (ledger .entry)) live b ⌝ }
 {
     let joined = b.joined;
     if b.inb {
         let key = event_of(file, marks);
-        let repeated = rules_walk::rule15_named_before(file, index, key, b.from);
+        let repeated = rules_walk::is_noted(table, b.from);
         let alive = ledger::is_live(ledger, live, key);
         return Facts {
             inb: true,

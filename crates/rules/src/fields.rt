@@ -15,7 +15,7 @@ use rules_fields::ie4_antigen;
 use rules_forms::rules1_and_2;
 use rules_plain::field2_number;
 use rules_plain::field3_uli;
-use rules_plain::ii6_in5_date;
+use rules_plain::in5_date;
 use rules_plain::ip25_birth;
 use rules_plain::iv2_version;
 ghost use mathlib.Core.Path.{_≡_};
@@ -124,7 +124,7 @@ pub(crate) fn judge_in(
     match f {
         2 => one(field2_number(IN, t, here.place)),
         3 => one(field3_uli(IN, t, span_text(file, here.uli))),
-        5 => one(ii6_in5_date(IN, 5, t, by.today, here.born)),
+        5 => one(in5_date(t, by.today, here.born)),
         6 => one(code_field(IN, false, 6, t, t, book, by.sections, here.day)),
         _ => one(rules1_and_2(IN, false, f, t)),
     }

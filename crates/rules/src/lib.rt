@@ -27,7 +27,7 @@ struct By {
 
 // What is known at a line beside its marks, as `Seen` has it: its kind, its number, its place; where it and the next line start; its IP's ULI
 // and day of birth; its II's vaccine; the day of its II or IN; where the IE lines just before it start; where its block starts; where its own
-// IE lines end, and those of its block's first II; and what the index and the ledger say of it.
+// IE lines end, and those of its block's first II; and what the table of repeats and the ledger say of it.
 struct Here {
     kind: u8,
     n: usize,
@@ -93,14 +93,6 @@ struct BlockAt {
     inb: bool,
     joined: bool,
     from: usize,
-}
-
-// The walk at a line: where it starts, the state there, how many findings there are so far, and whether the line before begins a block.
-struct Turn {
-    at: usize,
-    st: State,
-    count: usize,
-    first: bool,
 }
 
 // What a whole walk finds: how many blocks, findings and IN records.

@@ -9,6 +9,7 @@ use crate::fields::judge_ip;
 use crate::fields::judge_iv;
 use crate::fields::judge_plain;
 use crate::vaccine::judge_ii;
+use house::wide;
 use lines::IA;
 use lines::IE;
 use lines::IF;
@@ -21,57 +22,32 @@ use lines_fields::judged;
 use rules_fields::Broken;
 ghost use mathlib.Core.Path.{_≡_};
 ghost use Prim.Native.Nat.{_+_, _^_, _≤_, _<_};
-ghost use lib.ListN.{length, getD};
-ghost use Rattle.rules_definitions.specs.Seen.{Setting, Seen};
-ghost use Rattle.rules_definitions.specs.Findings.{fieldsFindings};
-ghost use Rattle.rules.specs.Inside.{kept, keep};
-ghost use Rattle.rules.specs.Fields.{Told, Judges, relaxedIn, lastField, lastOf, nextField};
+ghost use lib.ListN.{getD};
+ghost use Rattle.house.specs.Text.{Text};
+ghost use Rattle.rules.specs.Fields.{Bookless, Judges, JudgesLine, relaxedIn, lastField, lastOf, nextField};
 
-// Whether a line of a kind is a relaxed event; asked of an II alone.
-fn relaxed_of(file: &[u8], marks: &[u32], kind: u8) -> bool
-    ensures { λ r. ⌜ (kind ≡ 4 → r ≡ relaxedIn (now (file .entry)) (now (marks .entry))) ⌝ }
+// Whether the II with these marks is a relaxed event.
+fn relaxed_of(file: &[u8], marks: &[u32]) -> bool
+    ensures { λ r. ⌜ r ≡ relaxedIn (now (file .entry)) (now (marks .entry)) ⌝ }
 {
-    if kind == II {
-        let t5 = judged(file, marks, 5);
-        let t18 = judged(file, marks, 18);
-        let t19 = judged(file, marks, 19);
-        rules_forms::relaxed(t5, t18, t19, judged(file, marks, 20))
-    } else {
-        false
-    }
+    let t5 = judged(file, marks, 5);
+    let t18 = judged(file, marks, 18);
+    let t19 = judged(file, marks, 19);
+    rules_forms::relaxed(t5, t18, t19, judged(file, marks, 20))
 }
 
-// Field f of a line, by its kind.
-fn judge_field(
-    file: &[u8],
-    marks: &[u32],
-    here: Here,
-    book: &[u8],
-    by: By,
-    relaxed: bool,
-    f: usize,
-) -> Broken
+// Field f of a line of a kind that asks nothing of the book.
+fn judge_other(file: &[u8], marks: &[u32], here: Here, by: By, f: usize) -> Broken
     requires { ⌜ f ≤ 28 ⌝ }
-    requires { ⌜ (here .kind ≡ 4 → relaxed ≡ relaxedIn (now file) (now marks)) ⌝ }
-    ensures { λ r. ⌜ Judges (now (file .entry)) (now (marks .entry)) here (now (book .entry)) by f r ⌝ }
+    requires { ⌜ Bookless (here .kind) ⌝ }
+    ensures { λ r. ⌜ ((book : Text) → Judges (now (file .entry)) (now (marks .entry)) here book by f r) ⌝ }
 {
     let kind = here.kind;
     match kind {
         IV => judge_iv(file, marks, here, f),
         IP => judge_ip(file, marks, here, by, f),
-        II => judge_ii(file, marks, here, book, by, relaxed, f),
-        IE => judge_ie(file, marks, here, book, by, f),
-        IN => judge_in(file, marks, here, book, by, f),
-        IA => judge_ia(file, marks, here, book, by, f),
         _ => judge_plain(file, marks, here, f),
     }
-}
-
-// A mark as a number of any size.
-fn wide(mark: u32) -> usize
-    ensures { λ r. ⌜ r ≡ mark ⌝ }
-{
-    mark as usize
 }
 
 // How many fields a line with these marks has.
@@ -123,6 +99,131 @@ fn next_field(kind: u8, f: usize) -> usize
     }
 }
 
+// The fields of an II: their findings put to the others.
+fn judge_ii_line(
+    file: &[u8],
+    marks: &[u32],
+    here: Here,
+    book: &[u8],
+    by: By,
+    area: &mut [u8],
+    count: usize,
+) -> usize
+    requires { ⌜ here .kind ≡ 4 ⌝ }
+    requires { ⌜ count + 84 < 2 ^ 64 ⌝ }
+    ensures { λ r. ⌜ JudgesLine (now (file .entry)) (now (marks .entry)) here (now (book .entry)) by count (now (area .entry)) r (now (area .exit)) ⌝ }
+{
+    let last = last_of(II, count_marked(marks));
+    let relaxed = relaxed_of(file, marks);
+    let mut c = count;
+    let mut f = 2;
+    while f <= last {
+        let b = judge_ii(file, marks, here, book, by, relaxed, f);
+        c = emit(area, c, here.n, f, b);
+        f += 1;
+    }
+    c
+}
+
+// The fields of an IE: their findings put to the others.
+fn judge_ie_line(
+    file: &[u8],
+    marks: &[u32],
+    here: Here,
+    book: &[u8],
+    by: By,
+    area: &mut [u8],
+    count: usize,
+) -> usize
+    requires { ⌜ here .kind ≡ 5 ⌝ }
+    requires { ⌜ count + 84 < 2 ^ 64 ⌝ }
+    ensures { λ r. ⌜ JudgesLine (now (file .entry)) (now (marks .entry)) here (now (book .entry)) by count (now (area .entry)) r (now (area .exit)) ⌝ }
+{
+    let last = last_of(IE, count_marked(marks));
+    let mut c = count;
+    let mut f = 2;
+    while f <= last {
+        let b = judge_ie(file, marks, here, book, by, f);
+        c = emit(area, c, here.n, f, b);
+        f += 1;
+    }
+    c
+}
+
+// The fields of an IN: their findings put to the others.
+fn judge_in_line(
+    file: &[u8],
+    marks: &[u32],
+    here: Here,
+    book: &[u8],
+    by: By,
+    area: &mut [u8],
+    count: usize,
+) -> usize
+    requires { ⌜ here .kind ≡ 6 ⌝ }
+    requires { ⌜ count + 84 < 2 ^ 64 ⌝ }
+    ensures { λ r. ⌜ JudgesLine (now (file .entry)) (now (marks .entry)) here (now (book .entry)) by count (now (area .entry)) r (now (area .exit)) ⌝ }
+{
+    let last = last_of(IN, count_marked(marks));
+    let mut c = count;
+    let mut f = 2;
+    while f <= last {
+        let b = judge_in(file, marks, here, book, by, f);
+        c = emit(area, c, here.n, f, b);
+        f += 1;
+    }
+    c
+}
+
+// The fields of an IA: their findings put to the others.
+fn judge_ia_line(
+    file: &[u8],
+    marks: &[u32],
+    here: Here,
+    book: &[u8],
+    by: By,
+    area: &mut [u8],
+    count: usize,
+) -> usize
+    requires { ⌜ here .kind ≡ 7 ⌝ }
+    requires { ⌜ count + 84 < 2 ^ 64 ⌝ }
+    ensures { λ r. ⌜ JudgesLine (now (file .entry)) (now (marks .entry)) here (now (book .entry)) by count (now (area .entry)) r (now (area .exit)) ⌝ }
+{
+    let last = last_of(IA, count_marked(marks));
+    let mut c = count;
+    let mut f = 2;
+    while f <= last {
+        let b = judge_ia(file, marks, here, book, by, f);
+        c = emit(area, c, here.n, f, b);
+        f += 1;
+    }
+    c
+}
+
+// The fields of a line of any other kind: their findings put to the others.
+fn judge_other_line(
+    file: &[u8],
+    marks: &[u32],
+    here: Here,
+    by: By,
+    area: &mut [u8],
+    count: usize,
+) -> usize
+    requires { ⌜ Bookless (here .kind) ⌝ }
+    requires { ⌜ count + 84 < 2 ^ 64 ⌝ }
+    ensures { λ r. ⌜ ((book : Text) → JudgesLine (now (file .entry)) (now (marks .entry)) here book by count (now (area .entry)) r (now (area .exit))) ⌝ }
+{
+    let last = last_of(here.kind, count_marked(marks));
+    let mut c = count;
+    let mut f = 2;
+    while f <= last {
+        let b = judge_other(file, marks, here, by, f);
+        c = emit(area, c, here.n, f, b);
+        f = next_field(here.kind, f);
+    }
+    c
+}
+
 // The fields of a line that a rule is placed on: their findings put to the others.
 pub(crate) fn judge_line(
     file: &[u8],
@@ -134,18 +235,14 @@ pub(crate) fn judge_line(
     count: usize,
 ) -> usize
     requires { ⌜ count + 84 < 2 ^ 64 ⌝ }
-    ensures { λ r. ⌜ ((s : Setting) (v : Seen) → Told (now (file .entry)) (now (marks .entry)) here (now (book .entry)) by s v
-        → kept r (now (area .exit)) ≡ keep (fieldsFindings s (here .n) v 1 (length (v .line .fields))) (kept count (now (area .entry)))) ⌝ }
-    ensures { λ r. ⌜ r ≤ count + 84 ⌝ }
+    ensures { λ r. ⌜ JudgesLine (now (file .entry)) (now (marks .entry)) here (now (book .entry)) by count (now (area .entry)) r (now (area .exit)) ⌝ }
 {
-    let last = last_of(here.kind, count_marked(marks));
-    let relaxed = relaxed_of(file, marks, here.kind);
-    let mut c = count;
-    let mut f = 2;
-    while f <= last {
-        let b = judge_field(file, marks, here, book, by, relaxed, f);
-        c = emit(area, c, here.n, f, b);
-        f = next_field(here.kind, f);
+    let kind = here.kind;
+    match kind {
+        II => judge_ii_line(file, marks, here, book, by, area, count),
+        IE => judge_ie_line(file, marks, here, book, by, area, count),
+        IN => judge_in_line(file, marks, here, book, by, area, count),
+        IA => judge_ia_line(file, marks, here, book, by, area, count),
+        _ => judge_other_line(file, marks, here, by, area, count),
     }
-    c
 }

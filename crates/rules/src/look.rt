@@ -142,18 +142,18 @@ fn see(
     marks: &[u32],
     r: Read,
     st: State,
-    index: &[u32],
+    table: &[u8],
     ledger: &[u8],
     live: usize,
 ) -> Here
     requires { ⌜ ReadAs (now file) (now marks) r ⌝ }
     requires { ⌜ Holds (now file) (r .at) st ⌝ }
-    ensures { λ h. ⌜ HereIs (now (file .entry)) (r .at) st (now (index .entry)) (now (ledger .entry)) live h ⌝ }
+    ensures { λ h. ⌜ HereIs (now (file .entry)) (r .at) st (now (table .entry)) (now (ledger .entry)) live h ⌝ }
 {
     let block = st.block;
     let last = block.last;
     let b = block_of(file, marks, r.kind, r.at, last, block.run);
-    let facts = facts_of(file, marks, index, ledger, live, b);
+    let facts = facts_of(file, marks, table, ledger, live, b);
     here_of(file, marks, r, st, b, facts)
 }
 
@@ -181,14 +181,14 @@ pub(crate) fn look(
     marks: &mut [u32],
     at: usize,
     st: State,
-    index: &[u32],
+    table: &[u8],
     ledger: &[u8],
     live: usize,
 ) -> Here
     requires { ⌜ LookAt (now file) (now marks) at st ⌝ }
-    ensures { λ r. ⌜ HereIs (now (file .entry)) at st (now (index .entry)) (now (ledger .entry)) live r ⌝ }
+    ensures { λ r. ⌜ HereIs (now (file .entry)) at st (now (table .entry)) (now (ledger .entry)) live r ⌝ }
     ensures { λ _. ⌜ now (marks .exit) ≡ marksAt (now (file .entry)) at ⌝ }
 {
     let r = read(file, marks, at);
-    see(file, marks, r, st, index, ledger, live)
+    see(file, marks, r, st, table, ledger, live)
 }

@@ -1,8 +1,6 @@
 // The pass over a file: each line judged in turn, and the index of its blocks.
 use crate::By;
-use crate::Here;
 use crate::Judged;
-use crate::Turn;
 use crate::Walked;
 use crate::line::judge_line;
 use crate::look::look;
@@ -15,15 +13,19 @@ use rules_walk::Built;
 use rules_walk::MOST_BYTES;
 ghost use mathlib.Core.Path.{_≡_};
 ghost use mathlib.Core.Bool.{not, _&&_};
-ghost use Prim.Native.Nat.{_≤_};
-ghost use lib.ListN.{length, take};
+ghost use Prim.Native.Nat.{_*_, _≤_};
+ghost use lib.ListN.{length, take, replicate};
 ghost use Rattle.ledger.specs.Ledger.{foundIn};
 ghost use Rattle.rules_walk.specs.Firsts.{fileMost, builtIn};
 ghost use Rattle.rules.specs.Look.{settingBy};
-ghost use Rattle.rules.specs.Under.{findingsUnder};
-ghost use Rattle.rules.specs.Walk.{ReadIn};
-ghost use Rattle.rules.specs.Turned.{Fits, TurnAt, TurnIs, JudgedIs};
-ghost use Rattle.rules.specs.Judged.{judgedOf, judgedArea, WalkIs, GatherIs, Judging, Sorting};
+ghost use Rattle.rules.specs.Judged.{shortFile, judgedOf, judgedArea, WalkIs, AgainIs, Judging, Sorting};
+
+// A short file, and the tables by position: sixteen bytes of a file have an entry.
+const SHORT_FILE: usize = 65536;
+
+const SHORT_TABLE: usize = 4096;
+
+const LONG_TABLE: usize = 312500;
 
 // Whether a line begins a block.
 fn begins(facts: Facts) -> bool
@@ -36,132 +38,34 @@ fn begins(facts: Facts) -> bool
     }
 }
 
-// The line that was read judged, and the walk after it.
-fn judge_and_advance(
-    file: &[u8],
-    marks: &[u32],
-    here: Here,
-    t: Turn,
-    book: &[u8],
-    by: By,
-    area: &mut [u8],
-) -> Turn
-    requires { ⌜ ReadIn (now file) (now marks) ⌝ }
-    requires { ⌜ Fits t ⌝ }
-    ensures { λ r. ⌜ JudgedIs (now (file .entry)) (now (marks .entry)) here t (now (book .entry)) by (now (area .entry)) r (now (area .exit)) ⌝ }
-{
-    let count = judge_line(file, marks, here, book, by, area, t.count);
-    let st = advance(file, marks, t.st, here);
-    let facts = here.facts;
-    Turn {
-        at: here.next,
-        st,
-        count,
-        first: begins(facts),
-    }
-}
-
-// One line judged, and the walk after it. Events named before are looked up in an index.
-fn turn(
-    file: &[u8],
-    marks: &mut [u32],
-    t: Turn,
-    index: &[u32],
-    ledger: &[u8],
-    book: &[u8],
-    by: By,
-    area: &mut [u8],
-) -> Turn
-    requires { ⌜ TurnAt (now file) (now marks) t ⌝ }
-    ensures { λ r. ⌜ TurnIs (settingBy (by .today) (now (book .entry)) (by .sections) (foundIn (now (ledger .entry)) (by .live)))
-        (now (file .entry)) (now (index .entry)) t (now (area .entry)) r (now (area .exit)) ⌝ }
-{
-    let here = look(file, marks, t.at, t.st, index, ledger, by.live);
-    judge_and_advance(file, marks, here, t, book, by, area)
-}
-
-// Every line of a file, events named before being looked up in an index: its findings counted, and those that fit written.
+// Every line of a file, a block being one whose event is named before if a table notes its start: the findings counted, and those that fit
+// written; and where each block's first II line starts is written to the front of an area, as many as fit.
 fn walk(
     file: &[u8],
-    marks: &mut [u32],
-    index: &[u32],
+    table: &[u8],
     ledger: &[u8],
     book: &[u8],
     by: By,
-    area: &mut [u8],
-) -> usize
-    requires { ⌜ length (now file) ≤ fileMost ⌝ }
-    requires { ⌜ length (now marks) ≡ 30 ⌝ }
-    ensures { λ r. ⌜ WalkIs (settingBy (by .today) (now (book .entry)) (by .sections) (foundIn (now (ledger .entry)) (by .live)))
-        (now (file .entry)) (now (index .entry)) (now (area .entry)) r (now (area .exit)) ⌝ }
-{
-    let mut st = start();
-    let mut at = 0;
-    let mut count = 0;
-    while at < file.len() {
-        let t = turn(
-            file,
-            marks,
-            Turn {
-                at,
-                st,
-                count,
-                first: false,
-            },
-            index,
-            ledger,
-            book,
-            by,
-            area,
-        );
-        st = t.st;
-        at = t.at;
-        count = t.count;
-    }
-    count
-}
-
-// The same, no event having been named before; and where each block's first II line starts is written to the front of an area, as many as fit.
-fn gather(
-    file: &[u8],
-    marks: &mut [u32],
-    index: &mut [u32],
-    ledger: &[u8],
-    book: &[u8],
-    by: By,
+    firsts: &mut [u32],
     area: &mut [u8],
 ) -> Walked
     requires { ⌜ length (now file) ≤ fileMost ⌝ }
-    requires { ⌜ length (now marks) ≡ 30 ⌝ }
-    ensures { λ r. ⌜ GatherIs (settingBy (by .today) (now (book .entry)) (by .sections) (foundIn (now (ledger .entry)) (by .live)))
-        (now (file .entry)) (now (area .entry)) (now (index .entry)) r (now (area .exit)) (now (index .exit)) ⌝ }
+    ensures { λ r. ⌜ WalkIs (settingBy (by .today) (now (book .entry)) (by .sections) (foundIn (now (ledger .entry)) (by .live)))
+        (now (file .entry)) (now (table .entry)) (now (area .entry)) (now (firsts .entry)) r (now (area .exit)) (now (firsts .exit)) ⌝ }
 {
+    let mut marks = [0u32; MARKS];
     let mut st = start();
     let mut at = 0;
     let mut findings = 0;
     let mut blocks: usize = 0;
     while at < file.len() {
-        let here = at as u32;
-        let t = turn(
-            file,
-            marks,
-            Turn {
-                at,
-                st,
-                count: findings,
-                first: false,
-            },
-            &index[..0],
-            ledger,
-            book,
-            by,
-            area,
-        );
-        st = t.st;
-        at = t.at;
-        findings = t.count;
-        if t.first {
-            rules_walk::put(index, blocks, here);
+        let here = look(file, &mut marks, at, st, table, ledger, by.live);
+        findings = judge_line(file, &marks, here, book, by, area, findings);
+        st = advance(file, &marks, st, here);
+        let first = at as u32;
+        at = here.next;
+        if begins(here.facts) {
+            rules_walk::put(firsts, blocks, first);
             blocks += 1;
             continue;
         }
@@ -174,10 +78,75 @@ fn gather(
     }
 }
 
-// Every line of a file, events named before being looked up in the first n places of an area, or in all where there are fewer.
+// The first n places, or all where there are fewer.
+fn front(places: &[u32], n: usize) -> &[u32]
+    ensures { λ r. ⌜ now r ≡ take n (now (places .entry)) ⌝ }
+{
+    if places.len() <= n {
+        return places;
+    }
+    let from = 0;
+    &places[from..n]
+}
+
+// How many findings a file has, the blocks that repeat an event being noted by its index in a table that is clear; those that fit are written.
+fn walk_noted(
+    file: &[u8],
+    index: &[u32],
+    table: &mut [u8],
+    ledger: &[u8],
+    book: &[u8],
+    by: By,
+    area: &mut [u8],
+) -> usize
+    requires { ⌜ length (now file) ≤ fileMost ⌝ }
+    requires { ⌜ now table ≡ replicate (length (now table)) 0 ⌝ }
+    requires { ⌜ length (now file) ≤ 16 * length (now table) ⌝ }
+    ensures { λ r. ⌜ AgainIs (settingBy (by .today) (now (book .entry)) (by .sections) (foundIn (now (ledger .entry)) (by .live)))
+        (now (file .entry)) (now (index .entry)) (now (area .entry)) r (now (area .exit)) ⌝ }
+{
+    rules_walk::note_repeats(file, index, table);
+    let mut none = [0u32; 0];
+    walk(file, table, ledger, book, by, &mut none, area).findings
+}
+
+// The same of a short file: the less table there is, the less is to be cleared.
+fn walk_short(
+    file: &[u8],
+    index: &[u32],
+    ledger: &[u8],
+    book: &[u8],
+    by: By,
+    area: &mut [u8],
+) -> usize
+    requires { ⌜ length (now file) ≤ shortFile ⌝ }
+    ensures { λ r. ⌜ AgainIs (settingBy (by .today) (now (book .entry)) (by .sections) (foundIn (now (ledger .entry)) (by .live)))
+        (now (file .entry)) (now (index .entry)) (now (area .entry)) r (now (area .exit)) ⌝ }
+{
+    let mut table = [0u8; SHORT_TABLE];
+    walk_noted(file, index, &mut table, ledger, book, by, area)
+}
+
+// The same of a file as long as can be judged.
+fn walk_long(
+    file: &[u8],
+    index: &[u32],
+    ledger: &[u8],
+    book: &[u8],
+    by: By,
+    area: &mut [u8],
+) -> usize
+    requires { ⌜ length (now file) ≤ fileMost ⌝ }
+    ensures { λ r. ⌜ AgainIs (settingBy (by .today) (now (book .entry)) (by .sections) (foundIn (now (ledger .entry)) (by .live)))
+        (now (file .entry)) (now (index .entry)) (now (area .entry)) r (now (area .exit)) ⌝ }
+{
+    let mut table = [0u8; LONG_TABLE];
+    walk_noted(file, index, &mut table, ledger, book, by, area)
+}
+
+// The same by the first n places of an area, or by all where there are fewer.
 fn walk_by(
     file: &[u8],
-    marks: &mut [u32],
     places: &[u32],
     n: usize,
     ledger: &[u8],
@@ -186,21 +155,19 @@ fn walk_by(
     area: &mut [u8],
 ) -> usize
     requires { ⌜ length (now file) ≤ fileMost ⌝ }
-    requires { ⌜ length (now marks) ≡ 30 ⌝ }
-    ensures { λ r. ⌜ WalkIs (settingBy (by .today) (now (book .entry)) (by .sections) (foundIn (now (ledger .entry)) (by .live)))
+    ensures { λ r. ⌜ AgainIs (settingBy (by .today) (now (book .entry)) (by .sections) (foundIn (now (ledger .entry)) (by .live)))
         (now (file .entry)) (take n (now (places .entry))) (now (area .entry)) r (now (area .exit)) ⌝ }
 {
-    if places.len() <= n {
-        return walk(file, marks, places, ledger, book, by, area);
+    let index = front(places, n);
+    if file.len() <= SHORT_FILE {
+        return walk_short(file, index, ledger, book, by, area);
     }
-    let from = 0;
-    walk(file, marks, &places[from..n], ledger, book, by, area)
+    walk_long(file, index, ledger, book, by, area)
 }
 
 // Puts the places of the blocks that a walk gathered in order; where two of them name one event, the walk is made again by that index.
 fn judge_sorted(
     file: &[u8],
-    marks: &mut [u32],
     w: Walked,
     book: &[u8],
     by: By,
@@ -209,7 +176,6 @@ fn judge_sorted(
     area: &mut [u8],
 ) -> Judged
     requires { ⌜ length (now file) ≤ fileMost ⌝ }
-    requires { ⌜ length (now marks) ≡ 30 ⌝ }
     ensures { λ r. ⌜ Sorting (now (file .entry)) (now (book .entry)) by (now (ledger .entry)) w
         (now (room .entry)) (now (area .entry)) r (now (room .exit)) (now (area .exit)) ⌝ }
 {
@@ -225,7 +191,7 @@ fn judge_sorted(
                     not_immunized,
                 };
             }
-            let findings = walk_by(file, marks, room, blocks, ledger, book, by, area);
+            let findings = walk_by(file, room, blocks, ledger, book, by, area);
             Judged::Done {
                 blocks,
                 findings,
@@ -239,7 +205,6 @@ fn judge_sorted(
 // blocks do name one, once more, by the index of its blocks.
 fn judge_file(
     file: &[u8],
-    marks: &mut [u32],
     book: &[u8],
     by: By,
     ledger: &[u8],
@@ -247,12 +212,12 @@ fn judge_file(
     area: &mut [u8],
 ) -> Judged
     requires { ⌜ length (now file) ≤ fileMost ⌝ }
-    requires { ⌜ length (now marks) ≡ 30 ⌝ }
     ensures { λ r. ⌜ Judging (now (file .entry)) (now (book .entry)) by (now (ledger .entry))
         (now (room .entry)) (now (area .entry)) r (now (room .exit)) (now (area .exit)) ⌝ }
 {
-    let w = gather(file, marks, room, ledger, book, by, area);
-    judge_sorted(file, marks, w, book, by, ledger, room, area)
+    let none = [0u8; 0];
+    let w = walk(file, &none, ledger, book, by, room, area);
+    judge_sorted(file, w, book, by, ledger, room, area)
 }
 
 // Judges a file: counts its findings, writes those that fit in the area, and leaves the index of its blocks in the room lent.
@@ -274,11 +239,10 @@ pub fn judge(
     if MOST_BYTES < file.len() {
         return Judged::TooMany;
     }
-    let mut marks = [0u32; MARKS];
     let by = By {
         today,
         sections,
         live,
     };
-    judge_file(file, &mut marks, book, by, ledger, room, area)
+    judge_file(file, book, by, ledger, room, area)
 }

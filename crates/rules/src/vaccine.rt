@@ -18,7 +18,7 @@ use rules_fields::ii13_dosage_type;
 use rules_forms::rules1_and_2;
 use rules_plain::field2_number;
 use rules_plain::field3_uli;
-use rules_plain::ii6_in5_date;
+use rules_plain::ii6_date;
 use rules_plain::ii15_lot;
 ghost use mathlib.Core.Path.{_≡_};
 ghost use Prim.Native.Nat.{_≤_};
@@ -53,7 +53,7 @@ pub(crate) fn judge_ii(
         2 => one(field2_number(II, t, here.place)),
         3 => one(field3_uli(II, t, span_text(file, here.uli))),
         4 => ii4_type(t, here.facts),
-        6 => one(ii6_in5_date(II, 6, t, by.today, here.born)),
+        6 => one(ii6_date(t, by.today, here.born)),
         8 => judge_ii8(file, here, book, by, t),
         9 => ii9_site(relaxed, t, judged(file, marks, 10)),
         10 => ii10_method(relaxed, judged(file, marks, 9), t),

@@ -12,12 +12,14 @@ use lib.ListN.{length, getD}
 use Rattle.dates.specs.declared.Date.{Date}
 use Rattle.dates.specs.declared.Dated.{Dated}
 use Rattle.dates.specs.declared.Dated.the-variants.{Day, NoDate}
-use Rattle.house.specs.Text.{Text, all, same, run, isDigit}
+use Rattle.house.specs.Text.{Text, all, same, run, digits, isDigit}
 use Rattle.dates.specs.Dates.{isDate, datedOf}
 use Rattle.house.proofs.Decisions.{is-same, not-same}
+use Rattle.house.proofs.Small.{Three, lt, eq, gt, three}
 use Rattle.dates.proofs.DateLaws.{dated-true, dated-false}
 use Rattle.rules_definitions.specs.Forms.{isPrefix, isBatch, isTotal, countForm, isNumber, isUli, isType, isHistorical, isCode, isSiteText, isMethodText, isReason, isDosageType, isManufacturer, isLot, isCount, isReasonNot, isOrganization, isGrade}
 use Rattle.rules_forms.specs.Classes.{inClass}
+use Rattle.rules_forms.proofs.ClassLaws.{run-short, run-long, run-all}
 
 -- The forms that are runs, by name
 module _ (t : Text) (x : Bool) where
@@ -37,9 +39,9 @@ module _ (t : Text) (x : Bool) where
   unfolding isNumber
   number-is e = e
 
-  pub uli-is : x ≡ run 9 9 (inClass 1) t → x ≡ isUli t
-  unfolding isUli inClass
-  uli-is e = e
+  pub uli-is : length t ≡ 9 → x ≡ digits t → x ≡ isUli t
+  unfolding isUli digits
+  uli-is n e = run-all t 9 9 isDigit x (omega arith) (omega arith) e
 
   pub historical-is : x ≡ same t (72 ∷ []) → x ≡ isHistorical t
   unfolding isHistorical
@@ -85,7 +87,16 @@ module _ (t : Text) (x : Bool) where
   unfolding isGrade inClass
   grade-is e = e
 
-pub ruleset for-form = (needs, prefix-is, batch-is, total-is, number-is, uli-is, historical-is, code-is, site-text-is, method-text-is, dosage-type-is, manufacturer-is, lot-is, count-is, reason-not-is, organization-is, grade-is)
+pub uli-long : (t : Text) → (length t ≡ 9 → ⊥) → false ≡ isUli t
+unfolding isUli
+uli-long t n = go (three (length t) 9)
+  where
+    go : Three (length t) 9 → false ≡ run 9 9 isDigit t
+    go (lt h) = run-short t 9 9 isDigit h
+    go (eq h) = absurd (n h)
+    go (gt h) = run-long t 9 9 isDigit h
+
+pub ruleset for-form = (needs, prefix-is, batch-is, total-is, number-is, uli-is, uli-long, historical-is, code-is, site-text-is, method-text-is, dosage-type-is, manufacturer-is, lot-is, count-is, reason-not-is, organization-is, grade-is)
 
 -- is_date
 module _ (t : Text) (d : Dated) (e : d ≡ datedOf t) where

@@ -5,39 +5,32 @@ use crate::classes::LETTERS;
 use crate::classes::LETTERS_DIGITS;
 use crate::classes::LOT_BYTES;
 ghost use mathlib.Core.Path.{_≡_};
-ghost use mathlib.Core.Bool.{true};
 ghost use Prim.Native.Nat.{_≤_};
 ghost use lib.ListN.{length};
-ghost use Rattle.house.specs.Text.{any, within, digits, number};
+ghost use Rattle.house.specs.Text.{any, within};
 ghost use Rattle.dates.specs.Dates.{isDate};
 ghost use Rattle.rules_definitions.specs.Forms.{isPrefix, isBatch, isTotal, countForm, isNumber, isUli, isType, isHistorical, isCode, isSiteText, isMethodText, isReason, isFraction, isDosage, isDosageType, isManufacturer, isLot, isCount, isReasonNot, isOrganization, isGrade};
 ghost use Rattle.rules_forms.specs.TextLeaves.{valueOf, digitsLen};
-
-// The number that at most nine digits write.
-fn number_of(t: &[u8]) -> u32
-    requires { ⌜ length (now t) ≤ 9 ⌝ }
-    requires { ⌜ digits (now t) ≡ true ⌝ }
-    ensures { λ r. ⌜ r ≡ number (now (t .entry)) ⌝ }
-{
-    let mut v: u32 = 0;
-    let mut i = 0;
-    while i < t.len() {
-        let d = (t[i] - 48) as u32;
-        v = v * 10 + d;
-        i += 1;
-    }
-    v
-}
 
 // The number that 1 to 9 digits write; 0 for any other text.
 pub fn value(t: &[u8]) -> u32
     ensures { λ r. ⌜ r ≡ valueOf (now (t .entry)) ⌝ }
 {
-    if crate::classes::run_in(t, 1, 9, DIGITS) {
-        number_of(t)
-    } else {
-        0
+    if 9 < t.len() {
+        return 0;
     }
+    let mut v: u32 = 0;
+    let mut i = 0;
+    while i < t.len() {
+        if crate::classes::is_digit(t[i]) {
+            let d = (t[i] - 48) as u32;
+            v = v * 10 + d;
+            i += 1;
+        } else {
+            return 0;
+        }
+    }
+    v
 }
 
 // Whether a text is so many digits at most, at least 1 as a number.
@@ -45,11 +38,10 @@ fn is_positive(t: &[u8], most: usize) -> bool
     requires { ⌜ most ≤ 9 ⌝ }
     ensures { λ r. ⌜ r ≡ countForm most (now (t .entry)) ⌝ }
 {
-    if crate::classes::run_in(t, 1, most, DIGITS) {
-        0 < value(t)
-    } else {
-        false
+    if most < t.len() {
+        return false;
     }
+    0 < value(t)
 }
 
 // IH 2: 1 to 3 letters or digits.
@@ -84,7 +76,10 @@ pub(crate) fn is_number(t: &[u8]) -> bool
 pub fn is_uli(t: &[u8]) -> bool
     ensures { λ r. ⌜ r ≡ isUli (now (t .entry)) ⌝ }
 {
-    crate::classes::run_in(t, 9, 9, DIGITS)
+    if t.len() != 9 {
+        return false;
+    }
+    house::all_digits(t)
 }
 
 // IP 25, II 6, IN 5: a date.

@@ -7,7 +7,7 @@ use Rattle.house.specs.Text.{Text}
 use Rattle.lines.specs.Records.{recs}
 use Rattle.rules_forms.specs.TextLeaves.{valueOf}
 use Rattle.rules_forms.specs.FieldLeaves.{lowestIn}
-use Rattle.rules_plain.specs.PlainFields.{rule7By, rule6By, rule8TodayBy, bornBy, rule8By, rule3By, rule14By}
+use Rattle.rules_plain.specs.PlainFields.{rule7By, rule6By, rule8TodayBy, rule8By, rule3By, rule14By}
 
 abbrev One : {A : Type 0} → A → Type 0
 One {A} x = (r q : A) → r ≡ x → q ≡ x → r ≡ q
@@ -24,11 +24,11 @@ field3-uli k t uli = one _
 ip25-birth : (t : Text) (today : ℕ) → One (lowestIn 3 false 25 t (rule8TodayBy t today))
 ip25-birth t today = one _
 
-ii6-in5-date : (k f : ℕ) (t : Text) (today born : ℕ) → One (lowestIn k false f t (rule8By t today born))
-ii6-in5-date k f t today born = one _
+ii6-date : (t : Text) (today born : ℕ) → One (lowestIn 4 false 6 t (rule8By t today born))
+ii6-date t today born = one _
 
-born : (t : Text) → One (bornBy t)
-born t = one _
+in5-date : (t : Text) (today born : ℕ) → One (lowestIn 6 false 5 t (rule8By t today born))
+in5-date t today born = one _
 
 iv2-version : (t : Text) → One (lowestIn 1 false 2 t (rule3By t))
 iv2-version t = one _

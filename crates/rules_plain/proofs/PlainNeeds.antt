@@ -7,6 +7,7 @@ use Prim.Native.Nat.{ℕ, _≤_, _<_}
 use native.Mathlib.Omega.{arith}
 use borrow.Author.Needs.{needs}
 use borrow.Author.Tests.{eq-eqb, ne-eqb, lt-ltb, le-ltb}
+use lib.Dec.{ltb}
 use Rattle.dates.specs.declared.Date.{Date}
 use Rattle.dates.specs.declared.Dated.{Dated}
 use Rattle.dates.specs.declared.Dated.the-variants.{Day, NoDate}
@@ -14,12 +15,12 @@ use Rattle.house.specs.Text.{Text, any, isEmpty, same, number}
 use Rattle.dates.specs.Dates.{isDate, datedOf}
 use Rattle.house.proofs.Small.{clash}
 use Rattle.dates.proofs.DateLaws.{dated-true, dated-false}
-use Rattle.lines.specs.Records.{Rec}
-use Rattle.rules_definitions.specs.Forms.{formOf, isUli, isJudged}
+use Rattle.lines.specs.Records.{Rec, IP, II, IN}
+use Rattle.rules_definitions.specs.Forms.{formOf, table, isUli, isJudged}
 use Rattle.rules_forms.specs.TextLeaves.{valueOf}
 use Rattle.rules_forms.specs.FieldLeaves.{optionalIn, lowestIn}
 use Rattle.rules_lists.specs.Among.{lotIs}
-use Rattle.rules_plain.specs.PlainFields.{rule7By, rule6By, rule8TodayBy, bornBy, rule8By, rule3By, rule14By}
+use Rattle.rules_plain.specs.PlainFields.{rule7By, rule6By, rule8TodayBy, rule8DayBy, rule8By, rule3By, rule14By}
 
 -- the lowest rule: 1 or 2, or a later one where neither is broken
 module _ (k : ℕ) (x : Bool) (f : ℕ) (t : Text) (later r : ℕ) (e : r ≡ lowestIn k x f t 0) where
@@ -81,7 +82,33 @@ module _ (t u : Text) (y : Bool) (g : y ≡ same t u) where
 
 pub ruleset for-rule6-uli = (needs, uli-unsound, uli-same, uli-other)
 
--- rule8_after_today, born, rule8_date
+-- rule8_day
+module _ (n today born : ℕ) where
+  pub day-after : today < n → 8 ≡ rule8DayBy n today born
+  unfolding rule8DayBy
+  day-after k = rw (lt-ltb today n k)
+
+  module _ (k : n ≤ today) where
+    pub day-before : n < born → 8 ≡ rule8DayBy n today born
+    unfolding rule8DayBy
+    day-before m = rw (le-ltb today n k, lt-ltb n born m)
+
+    pub day-right : born ≤ n → 0 ≡ rule8DayBy n today born
+    unfolding rule8DayBy
+    day-right m = rw (le-ltb today n k, le-ltb n born m)
+
+pub ruleset for-rule8-day = (needs, day-after, day-before, day-right)
+
+-- ip25_birth, ii6_date, in5_date: a mandatory field whose form is a date
+dated : (k f : ℕ) (t : Text) (later : ℕ) → formOf k f t ≡ isDate t → isDate t ≡ true → lowestIn k false f t later ≡ later
+unfolding lowestIn isDate
+dated k f [] later e h = clash (cc)
+dated k f (b ∷ t) later e h = rw (e, h) (go (isJudged k f && not (optionalIn k false f)))
+  where
+    go : (a : Bool) → cond (a && false) 1 later ≡ later
+    go true = refl
+    go false = refl
+
 module _ (t : Text) (d : Dated) (e : d ≡ datedOf t) where
   module _ (x : Date) (h : d ≡ Day x) where
     day-is : number t ≡ x .number
@@ -96,51 +123,42 @@ module _ (t : Text) (d : Dated) (e : d ≡ datedOf t) where
     is-dated = dated-true t x (sym e ∙ h)
 
     module _ (today : ℕ) where
-      pub day-after : today < x .number → 8 ≡ rule8TodayBy t today
-      unfolding rule8TodayBy
-      day-after k = rw (is-dated, day-is, lt-ltb today (x .number) k)
+      birth : lowestIn IP false 25 t (rule8TodayBy t today) ≡ cond (ltb today (x .number)) 8 0
+      unfolding formOf table rule8TodayBy
+      birth = dated IP 25 t (rule8TodayBy t today) refl is-dated ∙ rw (is-dated, day-is)
 
-      pub day-right : x .number ≤ today → 0 ≡ rule8TodayBy t today
-      unfolding rule8TodayBy
-      day-right k = rw (is-dated, day-is, le-ltb today (x .number) k)
+      pub birth-after : today < x .number → 8 ≡ lowestIn IP false 25 t (rule8TodayBy t today)
+      birth-after k = sym (birth ∙ rw (lt-ltb today (x .number) k))
 
-      module _ (born : ℕ) where
-        pub date-after : today < x .number → 8 ≡ rule8By t today born
-        unfolding rule8By
-        date-after k = rw (is-dated, day-is, lt-ltb today (x .number) k)
+      pub birth-right : x .number ≤ today → 0 ≡ lowestIn IP false 25 t (rule8TodayBy t today)
+      birth-right k = sym (birth ∙ rw (le-ltb today (x .number) k))
 
-        module _ (k : x .number ≤ today) where
-          pub date-before : x .number < born → 8 ≡ rule8By t today born
-          unfolding rule8By
-          date-before m = rw (is-dated, day-is, le-ltb today (x .number) k, lt-ltb (x .number) born m)
+      module _ (born r : ℕ) (g : r ≡ rule8DayBy (x .number) today born) where
+        rule-8 : rule8By t today born ≡ r
+        unfolding rule8By rule8DayBy
+        rule-8 = rw (is-dated, day-is) (sym g)
 
-          pub date-right : born ≤ x .number → 0 ≡ rule8By t today born
-          unfolding rule8By
-          date-right m = rw (is-dated, day-is, le-ltb today (x .number) k, le-ltb (x .number) born m)
+        pub ii6-day : r ≡ lowestIn II false 6 t (rule8By t today born)
+        unfolding formOf table
+        ii6-day = sym (dated II 6 t (rule8By t today born) refl is-dated ∙ rule-8)
 
-  module _ (h : d ≡ NoDate) (today : ℕ) where
-    pub day-none : 0 ≡ rule8TodayBy t today
+        pub in5-day : r ≡ lowestIn IN false 5 t (rule8By t today born)
+        unfolding formOf table
+        in5-day = sym (dated IN 5 t (rule8By t today born) refl is-dated ∙ rule-8)
+
+  module _ (h : d ≡ NoDate) (today r : ℕ) where
+    pub birth-none : r ≡ lowestIn IP false 25 t 0 → r ≡ lowestIn IP false 25 t (rule8TodayBy t today)
     unfolding rule8TodayBy
-    day-none = rw (dated-false t (sym e ∙ h))
+    birth-none q = rw (dated-false t (sym e ∙ h)) q
 
-    pub date-none : (born : ℕ) → 0 ≡ rule8By t today born
-    unfolding rule8By
-    date-none born = rw (dated-false t (sym e ∙ h))
+    module _ (k f born : ℕ) where
+      pub date-none : r ≡ lowestIn k false f t 0 → r ≡ lowestIn k false f t (rule8By t today born)
+      unfolding rule8By
+      date-none q = rw (dated-false t (sym e ∙ h)) q
 
-module _ (t : Text) (d : Dated) (e : d ≡ datedOf t) where
-  pub born-day : (x : Date) → d ≡ Day x → x .number ≡ bornBy t
-  unfolding bornBy
-  born-day x h = rw (is-dated t d e x h, day-is t d e x h)
+pub ruleset for-birth = (needs, birth-after, birth-right, birth-none)
 
-  pub born-none : d ≡ NoDate → 0 ≡ bornBy t
-  unfolding bornBy
-  born-none h = rw (dated-false t (sym e ∙ h))
-
-pub ruleset for-rule8-after-today = (needs, day-after, day-right, day-none)
-
-pub ruleset for-rule8-date = (needs, date-after, date-before, date-right, date-none)
-
-pub ruleset for-born = (needs, born-day, born-none)
+pub ruleset for-date = (needs, ii6-day, in5-day, date-none)
 
 -- rule3_version
 module _ (t : Text) (x : Bool) (e : x ≡ same t (55 ∷ 46 ∷ 50 ∷ [])) where

@@ -26,9 +26,9 @@ rule8TodayBy t today = cond (isDate t && ltb today (number t)) 8 0
 unfoldable pub bornOf : Rec → ℕ
 bornOf ip = cond (isSound IP ip 25) (number (text ip 25)) 0
 
--- the day that this text of IP 25 gives
-unfoldable pub bornBy : Text → ℕ
-bornBy t = cond (isDate t) (number t) 0
+-- rule 8: a day after today or before the day of birth
+unfoldable pub rule8DayBy : ℕ → ℕ → ℕ → ℕ
+rule8DayBy n today born = cond (ltb today n || ltb n born) 8 0
 
 -- rule 8: a date after today or before the day of birth
 unfoldable pub rule8By : Text → ℕ → ℕ → ℕ

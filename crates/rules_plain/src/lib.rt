@@ -1,5 +1,6 @@
 // The lowest rule that is broken at a field that asks neither book nor ledger, by its text; 0 for none.
 use lines::II;
+use lines::IN;
 use lines::IP;
 use lines::IV;
 use rules_forms::is_uli;
@@ -8,10 +9,10 @@ use rules_forms::value;
 use rules_lists::rule14_any_lot;
 ghost use mathlib.Core.Bool.{false};
 ghost use mathlib.Core.Path.{_≡_};
-ghost use Rattle.lines.specs.Records.{IV, IP, II, recs};
+ghost use Rattle.lines.specs.Records.{IV, IP, II, IN, recs};
 ghost use Rattle.rules_forms.specs.TextLeaves.{valueOf};
 ghost use Rattle.rules_forms.specs.FieldLeaves.{lowestIn};
-ghost use Rattle.rules_plain.specs.PlainFields.{rule7By, rule6By, rule8TodayBy, bornBy, rule8By, rule3By, rule14By};
+ghost use Rattle.rules_plain.specs.PlainFields.{rule7By, rule6By, rule8TodayBy, rule8DayBy, rule8By, rule3By, rule14By};
 
 // Rule 7, of a number and its place.
 fn rule7_number(n: u32, place: usize) -> u8
@@ -52,65 +53,47 @@ pub fn field3_uli(kind: u8, t: &[u8], uli: &[u8]) -> u8
     rule6_uli(t, uli)
 }
 
-// Rule 8, of a date and today.
-fn rule8_after_today(t: &[u8], today: u32) -> u8
-    ensures { λ r. ⌜ r ≡ rule8TodayBy (now (t .entry)) today ⌝ }
-{
-    let d = dates::Date::of(t);
-    match d {
-        dates::Dated::Day(day) => { if today < day.number { 8 } else { 0 } }
-        dates::Dated::NoDate => 0,
-    }
-}
-
 // IP 25: rules 1, 2 and 8.
 pub fn ip25_birth(t: &[u8], today: u32) -> u8
     ensures { λ r. ⌜ r ≡ lowestIn IP false 25 (now (t .entry)) (rule8TodayBy (now (t .entry)) today) ⌝ }
 {
-    let r = rules1_and_2(IP, false, 25, t);
-    if r != 0 {
-        return r;
+    let d = dates::Date::of(t);
+    match d {
+        dates::Dated::Day(day) => { if today < day.number { 8 } else { 0 } }
+        dates::Dated::NoDate => rules1_and_2(IP, false, 25, t),
     }
-    rule8_after_today(t, today)
 }
 
-// The day of birth that this text of IP 25 gives, 0 where it gives none.
-pub fn born(t: &[u8]) -> u32
-    ensures { λ r. ⌜ r ≡ bornBy (now (t .entry)) ⌝ }
+// Rule 8, of a day, today and the day of birth.
+fn rule8_day(n: u32, today: u32, born: u32) -> u8
+    ensures { λ r. ⌜ r ≡ rule8DayBy n today born ⌝ }
+{
+    if today < n {
+        return 8;
+    }
+    if n < born { 8 } else { 0 }
+}
+
+// II 6: rules 1, 2 and 8.
+pub fn ii6_date(t: &[u8], today: u32, born: u32) -> u8
+    ensures { λ r. ⌜ r ≡ lowestIn II false 6 (now (t .entry)) (rule8By (now (t .entry)) today born) ⌝ }
 {
     let d = dates::Date::of(t);
     match d {
-        dates::Dated::Day(day) => day.number,
-        dates::Dated::NoDate => 0,
+        dates::Dated::Day(day) => rule8_day(day.number, today, born),
+        dates::Dated::NoDate => rules1_and_2(II, false, 6, t),
     }
 }
 
-// Rule 8, of a date, today and the day of birth.
-fn rule8_date(t: &[u8], today: u32, born: u32) -> u8
-    ensures { λ r. ⌜ r ≡ rule8By (now (t .entry)) today born ⌝ }
+// IN 5: rules 1, 2 and 8.
+pub fn in5_date(t: &[u8], today: u32, born: u32) -> u8
+    ensures { λ r. ⌜ r ≡ lowestIn IN false 5 (now (t .entry)) (rule8By (now (t .entry)) today born) ⌝ }
 {
     let d = dates::Date::of(t);
     match d {
-        dates::Dated::Day(day) => {
-            let n = day.number;
-            if today < n {
-                return 8;
-            }
-            if n < born { 8 } else { 0 }
-        }
-        dates::Dated::NoDate => 0,
+        dates::Dated::Day(day) => rule8_day(day.number, today, born),
+        dates::Dated::NoDate => rules1_and_2(IN, false, 5, t),
     }
-}
-
-// II 6, IN 5: rules 1, 2 and 8.
-pub fn ii6_in5_date(kind: u8, f: usize, t: &[u8], today: u32, born: u32) -> u8
-    ensures { λ r. ⌜ r ≡ lowestIn kind false f (now (t .entry)) (rule8By (now (t .entry)) today born) ⌝ }
-{
-    let r = rules1_and_2(kind, false, f, t);
-    if r != 0 {
-        return r;
-    }
-    rule8_date(t, today, born)
 }
 
 // Rule 3, of a version.

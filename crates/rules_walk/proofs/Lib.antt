@@ -4,14 +4,15 @@ pub mod PassLaws
 pub mod NamedLaws
 pub mod SizeLaws
 pub mod TypeLaws
-pub mod FindLaws
+pub mod IndexLaws
 pub mod OnceLaws
+pub mod NotedLaws
 pub mod StartLaws
 pub mod OverLaws
 pub mod BlockNeeds
 pub mod IndexNeeds
 -- What the functions' own needs ask
-mod FindNeeds
 mod PartNeeds
+mod RepeatNeeds
 -- No second answer
 mod OneAnswer

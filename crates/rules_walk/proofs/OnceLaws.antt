@@ -25,7 +25,7 @@ use Rattle.rules_walk.specs.Firsts.{startAfter, indexOf, namedBefore}
 use Rattle.rules_walk.specs.Inside.{Passed, firstsFrom, firstsIn}
 use Rattle.rules_walk.proofs.PassLaws.{place-passed, firsts-split}
 use Rattle.rules_walk.proofs.NamedLaws.{not-IE, none-in, event-key, joins-event, at-hand, joined-in, rule15-named}
-use Rattle.rules_walk.proofs.FindLaws.{any-at, index-any}
+use Rattle.rules_walk.proofs.IndexLaws.{any-at, index-any}
 
 -- of a list whose keys ascend strictly, no element before b has b's key
 module _ (key : ℕ → Text) (b : ℕ) where
@@ -56,7 +56,7 @@ module _ (key : ℕ → Text) (b : ℕ) where
 
 -- the block that is open starts with a first II, of the block's event
 module _ (f : Text) where
-  abbrev Opens : List Rec → ℕ → Rec → Type 0
+  abbrev pub Opens : List Rec → ℕ → Rec → Type 0
   Opens before b l = T (any (λ (p : ℕ). eqb p b) (firstsIn f before)) × (eventAt f b ≡ eventOf l)
 
   opens-more : (l m : Rec) (before : List Rec) (b : ℕ) → Opens before b m → Opens (l ∷ before) b m
@@ -89,7 +89,7 @@ module _ (f : Text) where
       go false false e z j u rec = absurd (none-in u)
 
   -- so does a line's own
-  line-opens : (l : Rec) (before : List Rec) → Passed f (l ∷ before) → isInBlock l ≡ true → Opens (l ∷ before) (startAfter f (beforeBlock l before)) l
+  pub line-opens : (l : Rec) (before : List Rec) → Passed f (l ∷ before) → isInBlock l ≡ true → Opens (l ∷ before) (startAfter f (beforeBlock l before)) l
   unfolding beforeBlock
   line-opens l before c e = go (isKind IE l) (not-IE l i) (isInBlock l) e (block-opens (l ∷ before) c)
     where
@@ -105,7 +105,7 @@ module _ (f : Text) where
       go false p true q o = o i
       go false p false q o = clash (cc)
 
-  first-there : (before : List Rec) → Passed f before → (b : ℕ) → T (any (λ (p : ℕ). eqb p b) (firstsIn f before)) → T (any (λ (p : ℕ). eqb p b) (indexOf f))
+  pub first-there : (before : List Rec) → Passed f before → (b : ℕ) → T (any (λ (p : ℕ). eqb p b) (firstsIn f before)) → T (any (λ (p : ℕ). eqb p b) (indexOf f))
   first-there before c b t =
       rw (index-any f (λ (p : ℕ). eqb p b), firsts-split f (λ (p : ℕ). eqb p b) before c)
       (left-of (any (λ (p : ℕ). eqb p b) (firstsIn f before)) (any (λ (p : ℕ). eqb p b) (firstsFrom f before (recs (drop (startAfter f before) f)))) t)

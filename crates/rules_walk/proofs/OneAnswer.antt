@@ -7,7 +7,8 @@ use Prim.Native.Nat.{ℕ}
 use lib.ListN.{length, set}
 use Rattle.house.specs.Text.{Text}
 use Rattle.rules_walk.specs.declared.Built.{Built}
-use Rattle.rules_walk.specs.Firsts.{over, soundFour, frontOf, frontIn, partOf, foundBefore}
+use Rattle.rules_walk.specs.Firsts.{over, soundFour, frontOf, frontIn, partOf}
+use Rattle.rules_walk.specs.Repeats.{repeatsIn, isNoted, noteAll}
 
 one : {A : Type 0} {x r q : A} → r ≡ x → q ≡ x → r ≡ q
 one e f = e ∙ sym f
@@ -26,8 +27,11 @@ four-sound t u v w r q = one
 put : (out : List ℕ) (n p : ℕ) (s t : List ℕ) → s ≡ set out n p → t ≡ set out n p → s ≡ t
 put out n p s t = one
 
-rule15-named-before : (f : Text) (index : List ℕ) (e : Text) (b : ℕ) (r q : Bool) → r ≡ foundBefore f index e b → q ≡ foundBefore f index e b → r ≡ q
-rule15-named-before f index e b r q = one
+is-noted : (table : Text) (p : ℕ) (r q : Bool) → r ≡ isNoted table p → q ≡ isNoted table p → r ≡ q
+is-noted table p r q = one
+
+note-repeats : (f : Text) (index : List ℕ) (table s t : Text) → s ≡ noteAll (repeatsIn f index) table → t ≡ noteAll (repeatsIn f index) table → s ≡ t
+note-repeats f index table s t = one
 
 count-of : (f : Text) (letter : ℕ) (ps : List ℕ) (r q : ℕ) → r ≡ length (partOf f letter ps) → q ≡ length (partOf f letter ps) → r ≡ q
 count-of f letter ps r q = one

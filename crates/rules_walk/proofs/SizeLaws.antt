@@ -1,4 +1,4 @@
--- How many blocks a file of right shape has: an II in a block takes 44 bytes at least, and the IE after it 8.
+-- How many blocks a file of right shape has: an II in a block takes 44 bytes at least, and the IE after it 8; of any shape, 16 bytes at least.
 -- Assumes nothing.
 use mathlib.Core.Path.{_≡_, refl, sym, ap, _∙_, subst}
 use mathlib.Core.Bool.{Bool, true, false, not, cond}
@@ -91,6 +91,32 @@ block-text t b n =
     let s6 : suc (length (getD fs 6 [])) + sizes (drop 7 fs) ≤ sizes (drop 6 fs) = sizes-first fs 6 (omega arith) in
     let s7 : suc (length (getD fs 7 [])) + sizes (drop 8 fs) ≤ sizes (drop 7 fs) = sizes-first fs 7 (omega arith) in
     omega (arith, sizes-least (drop 8 fs), length-drop 8 fs, fields-size t)
+
+-- of any number of fields, an II in a block has a ULI and a date
+there : (fs : List Text) (n : ℕ) → 1 ≤ length (getD fs n []) → n < length fs
+there [] n h = absurd (omega arith)
+there (t ∷ ts) zero h = omega arith
+there (t ∷ ts) (suc n) h = omega (arith, there ts n h)
+
+named-text : (t : Text) → T (isInBlock (recOf t)) → 16 ≤ length t
+unfolding recOf fieldIn
+named-text t b =
+    let fs = fieldsOf t in
+    let w : (x : Text) (k : ℕ) → k ≤ length (judgedText x) → k ≤ length x = λ x k h. omega (arith, judged-within x) in
+    let u : 9 ≤ length (getD fs 2 []) = w (getD fs 2 []) 9 (omega (arith, uli-wide (recOf t) b)) in
+    let d : 8 ≤ length (getD fs 5 []) = w (getD fs 5 []) 8 (omega (arith, date-wide (recOf t) b)) in
+    let n : 5 < length fs = there fs 5 (omega arith) in
+    let s0 : suc (length (getD fs 0 [])) + sizes (drop 1 fs) ≤ sizes fs = sizes-first fs 0 (omega arith) in
+    let s1 : suc (length (getD fs 1 [])) + sizes (drop 2 fs) ≤ sizes (drop 1 fs) = sizes-first fs 1 (omega arith) in
+    let s2 : suc (length (getD fs 2 [])) + sizes (drop 3 fs) ≤ sizes (drop 2 fs) = sizes-first fs 2 (omega arith) in
+    let s3 : suc (length (getD fs 3 [])) + sizes (drop 4 fs) ≤ sizes (drop 3 fs) = sizes-first fs 3 (omega arith) in
+    let s4 : suc (length (getD fs 4 [])) + sizes (drop 5 fs) ≤ sizes (drop 4 fs) = sizes-first fs 4 (omega arith) in
+    let s5 : suc (length (getD fs 5 [])) + sizes (drop 6 fs) ≤ sizes (drop 5 fs) = sizes-first fs 5 (omega arith) in
+    omega (arith, fields-size t)
+
+pub block-wide : (s : Text) → T (isInBlock (recOf (lineOf s .text))) → 16 ≤ lineLen s
+unfolding lineLen textLen
+block-wide s b = omega (arith, named-text (lineOf s .text) b)
 
 antigen-text : (t : Text) → recordOf t ≡ 5 → length (fieldsOf t) ≡ 5 → 7 ≤ length t
 antigen-text t k n =

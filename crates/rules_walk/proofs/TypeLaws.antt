@@ -24,7 +24,7 @@ use Rattle.rules_walk.specs.Firsts.{startAfter, isFirst, startOf, firsts
 use Rattle.rules_walk.specs.Inside.{recAt}
 use Rattle.rules_walk.proofs.PassLaws.{ahead-first, ahead-rest}
 use Rattle.rules_walk.proofs.NamedLaws.{key-at}
-use Rattle.rules_walk.proofs.FindLaws.{any-sorted}
+use Rattle.rules_walk.proofs.IndexLaws.{any-sorted}
 
 any-map : (g : ℕ → Text) (q : Text → Bool) (ps : List ℕ) → any q (map g ps) ≡ any (λ (p : ℕ). q (g p)) ps
 any-map g q [] = refl

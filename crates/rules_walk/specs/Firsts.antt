@@ -1,14 +1,11 @@
 -- The index of blocks: where the first II line of each block starts, by event.
 -- Assumes nothing.
 use Prim.Native.Nat.{ℕ}
-use mathlib.Core.Bool.{Bool, true, false, cond, _&&_}
+use mathlib.Core.Bool.{Bool, cond, _&&_}
 use mathlib.Core.List.{List, [], _∷_, _++_, map}
-use lib.ListN.{length, getD, take, drop}
+use lib.ListN.{length, take, drop}
 use lib.Dec.{ltb, leb}
-use Rattle.house.specs.declared.Order.{Order}
-use Rattle.house.specs.declared.Order.the-variants.{Less, Same, More}
-use Rattle.house.specs.Text.{Text, any, those, same, orderOf}
-use Rattle.house.specs.Search.{byOrder, binarySearch}
+use Rattle.house.specs.Text.{Text, any, those, same}
 use Rattle.dates.specs.Dates.{isDate}
 use Rattle.lines_fields.specs.Lines.{lineOf, linesLen}
 use Rattle.lines_fields.specs.Marks.{judgedOf}
@@ -96,15 +93,3 @@ isTyped f type p = same (judgedOf (lineOf (drop p f) .text) 4) (type ∷ [])
 -- those of these positions whose lines are of this type
 unfoldable pub partOf : Text → ℕ → List ℕ → List ℕ
 partOf f type ps = those (isTyped f type) ps
-
--- Looking an event up in an index
-
--- how the line at position p stands to event e, position b being the end of those that count: of lines that name the event, those that
--- start before b are what is sought, and the others stand above it
-unfoldable pub standing : Text → Event → ℕ → ℕ → Order
-standing f e b p = byOrder (orderOf (eventAt f p) e) Less (cond (ltb p b) Same More) More
-
--- what a binary search of an index finds. Of the index of the file it is whether a first II line that starts before b names the event.
-unfoldable pub foundBefore : Text → List ℕ → Event → ℕ → Bool
-foundBefore f index e b =
-    binarySearch (λ (i : ℕ). standing f e b (getD index i 0)) (λ (i : ℕ). true) false (length index) 0 (length index)

@@ -1,18 +1,19 @@
-// Blocks of II lines, and their index: where the first II line of each block starts, by event; looking an event up in it, and its parts by
-// submission type.
+// Blocks of II lines, and their index: where the first II line of each block starts, by event; those of them whose event an
+// earlier block names, and its parts by submission type.
 mod blocks;
-mod find;
 mod index;
 mod line;
 mod parts;
+mod repeats;
 
 pub use blocks::four_sound;
-pub use find::rule15_named_before;
 pub use index::sort_index;
 pub use line::put;
 pub use parts::count_of;
 pub use parts::keep;
 pub use parts::part_of;
+pub use repeats::is_noted;
+pub use repeats::note_repeats;
 
 // The longest file whose index is built.
 pub const MOST_BYTES: usize = 5000000;

@@ -1,13 +1,6 @@
-// A place, and places written into an area.
+// Places written into an area.
 ghost use mathlib.Core.Path.{_≡_};
 ghost use lib.ListN.{set};
-
-// A place, as a position in the file.
-pub(crate) fn wide(p: u32) -> usize
-    ensures { λ r. ⌜ r ≡ p ⌝ }
-{
-    p as usize
-}
 
 // Writes a place into an area, if there is room at n.
 pub fn put(out: &mut [u32], n: usize, p: u32)

@@ -1,6 +1,6 @@
 // The parts of an index by submission type.
 use crate::line::put;
-use crate::line::wide;
+use house::wide;
 ghost use mathlib.Core.Path.{_≡_};
 ghost use lib.ListN.{length};
 ghost use Rattle.rules_walk.specs.Firsts.{over, isTyped, partOf};

@@ -129,7 +129,7 @@ fn changes(places: &[u32]) -> usize {
 fn say_ends(places: &[u32]) {
     let n = places.len();
     if 0 < n {
-        vectors_stream::say(vectors_stream::wide_number(places[0]) as u64);
-        vectors_stream::say(vectors_stream::wide_number(places[n - 1]) as u64);
+        vectors_stream::say(house::wide(places[0]) as u64);
+        vectors_stream::say(house::wide(places[n - 1]) as u64);
     }
 }

@@ -78,7 +78,7 @@ fn say_live(ledger: &[u8], live: usize, file: &[u8], places: &[u8]) {
         if i < places.len() / 4 {
             let key = lines_places::key_at(
                 file,
-                vectors_stream::wide_number(vectors_stream::number_at(places, 4 * i)),
+                house::wide(vectors_stream::number_at(places, 4 * i)),
             );
             vectors_stream::say_yes(ledger::is_live(ledger, live, key));
         }

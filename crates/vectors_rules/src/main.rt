@@ -95,8 +95,8 @@ fn judged(
     area: &mut [u8],
 ) {
     let today = vectors_stream::number_at(numbers, 0);
-    let blocks = vectors_stream::wide_number(vectors_stream::number_at(numbers, 4));
-    let bytes = vectors_stream::wide_number(vectors_stream::number_at(numbers, 8));
+    let blocks = house::wide(vectors_stream::number_at(numbers, 4));
+    let bytes = house::wide(vectors_stream::number_at(numbers, 8));
     if buffer.len() < blocks {
         return;
     }
@@ -133,9 +133,26 @@ fn say_judged(j: Judged, area: &[u8]) {
         }
         Judged::TooMany => {
             io::write_all(1, b"too-many ");
-            say_area(area, 0);
+            say_area(area, written(area));
         }
     }
+}
+
+// How many findings an area starts with: no rule has the number of the bytes that are lent.
+fn written(area: &[u8]) -> usize {
+    let mut at = 0;
+    let mut n: usize = 0;
+    while at < area.len() {
+        if area.len() - at < 6 {
+            return n;
+        }
+        if area[at] == 238 {
+            return n;
+        }
+        at += 6;
+        n += 1;
+    }
+    n
 }
 
 // The findings that are kept, each on its line, and whether the other bytes are as lent.

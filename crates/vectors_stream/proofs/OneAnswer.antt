@@ -9,6 +9,6 @@ use Rattle.vectors_stream.specs.Parts.{PartIs}
 one-part : (s : List ℕ) (at : ℕ) (p q : Part) → PartIs s at p → PartIs s at q → p ≡ q
 one-part s at p q h k = h .exact ∙ sym (k .exact)
 
--- `wide` and `wide_number`
+-- `wide`
 one-width : (b m n : ℕ) → m ≡ b → n ≡ b → m ≡ n
 one-width b m n h k = h ∙ sym k

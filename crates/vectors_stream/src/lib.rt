@@ -30,7 +30,7 @@ pub fn part_at(s: &[u8], at: usize) -> Part
         };
     }
     let body = at + 4;
-    let size = wide_number(number_at(s, at));
+    let size = house::wide(number_at(s, at));
     if n - body < size {
         return Part {
             start: 0,
@@ -50,13 +50,6 @@ pub fn wide(b: u8) -> usize
     ensures { λ r. ⌜ r ≡ b ⌝ }
 {
     b as usize
-}
-
-// A number of 32 bits, as one of the size of a length.
-pub fn wide_number(n: u32) -> usize
-    ensures { λ r. ⌜ r ≡ n ⌝ }
-{
-    n as usize
 }
 
 // Prints a number and a blank.

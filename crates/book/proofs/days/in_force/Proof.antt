@@ -1,5 +1,3 @@
--- `book::days::in_force` meets its contract.
--- Assumes nothing.
 use Rattle.book.proofs.DayLaws.{for-in-force}
 use Rattle.book.proofs.days.in_force.Statement.{statement}
 use Rattle.book.proofs.days.in_force.Tie as tie

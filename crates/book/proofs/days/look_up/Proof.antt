@@ -1,5 +1,3 @@
--- `book::days::look_up` meets its contract.
--- Assumes nothing.
 use Rattle.book.proofs.DayLaws.{for-look-up}
 use Rattle.book.proofs.days.look_up.Statement.{statement}
 use Rattle.book.proofs.days.look_up.Tie as tie
@@ -8,8 +6,6 @@ pub look-up-spec : {M : Type 1} → statement M
 look-up-spec =
     tie.close
     (tie.spec
-    (λ c. search for-look-up)
-    (λ c. search for-look-up)
     (λ c. search for-look-up)
     (λ c. search for-look-up)
     (λ c. search for-look-up)

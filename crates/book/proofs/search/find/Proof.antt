@@ -1,5 +1,3 @@
--- `book::search::find` meets its contract.
--- Assumes nothing.
 use Rattle.book.proofs.SearchLaws.{for-find}
 use Rattle.book.proofs.search.find.Statement.{statement}
 use Rattle.book.proofs.search.find.Tie as tie
@@ -8,5 +6,7 @@ pub find-spec : {M : Type 1} → statement M
 find-spec =
     tie.close
     (tie.spec
+    (λ c. search for-find)
+    (λ c. search for-find)
     (λ c. search for-find)
     (λ c. search for-find))

@@ -1,5 +1,3 @@
--- `book::search::in_section` meets its contract.
--- Assumes nothing.
 use Rattle.book.proofs.SearchLaws.{for-in-section}
 use Rattle.book.proofs.search.in_section.Statement.{statement}
 use Rattle.book.proofs.search.in_section.Tie as tie

@@ -1,7 +1,7 @@
 -- `house::texts::all_digits` meets its contract.
 -- Assumes nothing.
-use Rattle.house.proofs.PadLaws.{for-all-digits}
-use Prim.Native.Nat.{_-_}
+use Rattle.house.proofs.DigitLaws.{for-all-digits}
+use Prim.Native.Nat.{_-_, _≤_}
 use mathlib.Core.Path.{_≡_}
 use lib.ListN.{length, drop}
 use Rattle.house.specs.Text.{digits}
@@ -9,7 +9,7 @@ use Rattle.house.proofs.texts.all_digits.Statement.{statement}
 use Rattle.house.proofs.texts.all_digits.Tie as tie
 
 abbrev Inv-loop : tie.InvT-loop
-Inv-loop text i₀ i = digits text ≡ digits (drop i text)
+Inv-loop text i₀ i = (i ≤ length text) × (digits text ≡ digits (drop i text))
 
 abbrev μ-loop : tie.MeasureT-loop
 μ-loop text i₀ i = length text - i
@@ -20,6 +20,7 @@ all-digits-spec =
     (tie.spec
     Inv-loop
     μ-loop
+    (λ c. search for-all-digits)
     (λ c. search for-all-digits)
     (λ c. search for-all-digits)
     (λ c. search for-all-digits)

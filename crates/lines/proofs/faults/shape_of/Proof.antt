@@ -10,10 +10,10 @@ use Rattle.lines.proofs.faults.shape_of.Statement.{statement}
 use Rattle.lines.proofs.faults.shape_of.Tie as tie
 
 abbrev Inv-loop : tie.InvT-loop
-Inv-loop file at₀ line₀ p₀ at line p = (at ≤ length file) × (line ≤ at + 1) × (shapeOf file ≡ shapeFrom line p (linesOf (drop at file)))
+Inv-loop file plain at₀ line₀ p₀ at line p = (at ≤ length file) × (line ≤ at + 1) × (shapeOf file ≡ shapeFrom line p (linesOf (drop at file)))
 
 abbrev μ-loop : tie.MeasureT-loop
-μ-loop file at₀ line₀ p₀ at line p = length file - at
+μ-loop file plain at₀ line₀ p₀ at line p = length file - at
 
 pub shape-of-spec : {M : Type 1} → statement M
 shape-of-spec =
@@ -21,6 +21,7 @@ shape-of-spec =
     (tie.spec
     Inv-loop
     μ-loop
+    (λ c. search for-shape-of)
     (λ c. search for-shape-of)
     (λ c. search for-shape-of)
     (λ c. search for-shape-of)

@@ -1,6 +1,6 @@
 -- `rules::line::count_marked` meets its contract.
 -- Assumes nothing.
-use Rattle.rules.proofs.LineNeeds.{for-count-marked}
+use Rattle.rules.proofs.LastNeeds.{for-count-marked}
 use Rattle.rules.proofs.line.count_marked.Statement.{statement}
 use Rattle.rules.proofs.line.count_marked.Tie as tie
 

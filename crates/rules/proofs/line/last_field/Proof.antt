@@ -1,6 +1,6 @@
 -- `rules::line::last_field` meets its contract.
 -- Assumes nothing.
-use Rattle.rules.proofs.LineNeeds.{for-last-field}
+use Rattle.rules.proofs.LastNeeds.{for-last-field}
 use Rattle.rules.proofs.line.last_field.Statement.{statement}
 use Rattle.rules.proofs.line.last_field.Tie as tie
 

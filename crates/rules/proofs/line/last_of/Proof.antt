@@ -1,6 +1,6 @@
 -- `rules::line::last_of` meets its contract.
 -- Assumes nothing.
-use Rattle.rules.proofs.LineNeeds.{for-last-of}
+use Rattle.rules.proofs.LastNeeds.{for-last-of}
 use Rattle.rules.proofs.line.last_of.Statement.{statement}
 use Rattle.rules.proofs.line.last_of.Tie as tie
 

@@ -1,6 +1,6 @@
 -- `rules::line::next_field` meets its contract.
 -- Assumes nothing.
-use Rattle.rules.proofs.LineNeeds.{for-next-field}
+use Rattle.rules.proofs.LastNeeds.{for-next-field}
 use Rattle.rules.proofs.line.next_field.Statement.{statement}
 use Rattle.rules.proofs.line.next_field.Tie as tie
 

@@ -12,5 +12,4 @@ judge-spec =
     (λ c. search for-judge)
     (λ c. search for-judge)
     (λ c. search for-judge)
-    (λ c. search for-judge)
     (λ c. search for-judge))

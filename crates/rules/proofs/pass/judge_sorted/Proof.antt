@@ -18,5 +18,4 @@ judge-sorted-spec =
     (λ c. search for-judge-sorted)
     (λ c. search for-judge-sorted)
     (λ c. search for-judge-sorted)
-    (λ c. search for-judge-sorted)
     (λ c. search for-judge-sorted))

@@ -1,20 +1,20 @@
 -- `rules::pass::walk` meets its contract.
 -- Assumes nothing.
-use Rattle.rules.proofs.GatherNeeds.{for-walk}
-use mathlib.Core.Path.{_≡_}
+use Rattle.rules.proofs.PassNeeds.{for-walk, walk-numbers, walk-read, walk-falls, walk-other, walk-first}
+use mathlib.Core.Path.{_≡_, _∙_}
 use Prim.Native.Nat.{_-_}
 use lib.ListN.{length}
 use Rattle.ledger.specs.Ledger.{foundIn}
 use Rattle.rules.specs.Look.{settingBy}
-use Rattle.rules.proofs.GatherNeeds.{Walking}
+use Rattle.rules.proofs.GatherNeeds.{Gathering}
 use Rattle.rules.proofs.pass.walk.Statement.{statement}
 use Rattle.rules.proofs.pass.walk.Tie as tie
 
 abbrev Inv-loop : tie.InvT-loop
-Inv-loop file marks₀ index ledger book by area₀ st₀ at₀ count₀ marks area st at count = (length marks ≡ 30) × Walking (settingBy (by .today) book (by .sections) (foundIn ledger (by .live))) file index area₀ at st count area
+Inv-loop file table ledger book by firsts₀ area₀ marks₀ st₀ at₀ findings₀ blocks₀ firsts area marks st at findings blocks = (length marks ≡ 30) × Gathering (settingBy (by .today) book (by .sections) (foundIn ledger (by .live))) file table area₀ firsts₀ at st findings area firsts blocks
 
 abbrev μ-loop : tie.MeasureT-loop
-μ-loop file marks₀ index ledger book by area₀ st₀ at₀ count₀ marks area st at count = length file - at
+μ-loop file table ledger book by firsts₀ area₀ marks₀ st₀ at₀ findings₀ blocks₀ firsts area marks st at findings blocks = length file - at
 
 pub walk-spec : {M : Type 1} → statement M
 walk-spec =
@@ -27,6 +27,30 @@ walk-spec =
     (λ c. search for-walk)
     (λ c. search for-walk)
     (λ c. search for-walk)
+    (λ c. search for-walk)
+    (λ c. search for-walk)
+    (λ c _. (
+      walk-read _ _ _ _ _ _ _ _ _ _ _ (c .before .before .before .before .before .before .before .before .before .before .loop .inv .1) (c .before .before .before .before .before .before .before .before .before .before .loop .marks) (c .before .before .before .before .before .before .before .before .before .before .loop .inv .0) (c .before .before .before .before .before .before .before .before .before .before .before .before .before .before .before .before .before .before .pre) (c .before .before .before .before .before .before .before .before .before .loop-test .taken) _ (c .before .before .before .before .before .before .before .look .ensures .1),
+      walk-numbers _ _ _ _ _ _ _ _ _ _ _ (c .before .before .before .before .before .before .before .before .before .before .loop .inv .1) (c .before .before .before .before .before .before .before .before .before .before .loop .marks) (c .before .before .before .before .before .before .before .before .before .before .loop .inv .0) (c .before .before .before .before .before .before .before .before .before .before .before .before .before .before .before .before .before .before .pre) (c .before .before .before .before .before .before .before .before .before .loop-test .taken),
+    ))
+    (λ c. search (for-walk, c .before .before .before .before .before .before .before .before .before .before .before .before .before .before .before .before .before .before .before .pre))
+    (λ c. search for-walk)
+    (λ c. search for-walk)
+    (λ c. search (for-walk, c .before .before .before .before .before .before .before .before .before .before .before .before .before .before .before .before .before .before .before .before .before .before .before .before .before .pre, c .before .before .before .before .before .before .before .before .before .before .before .before .before .before .before .before .before .loop .inv))
+    (λ c. walk-falls _ _ _ _ _ _ _ _ _ _ _ _ _ (c .before .before .before .before .before .before .before .before .before .before .before .before .before .before .before .before .before .loop .inv .1) (c .before .before .before .before .before .before .before .before .before .before .before .before .before .before .before .before .before .loop .marks) (c .before .before .before .before .before .before .before .before .before .before .before .before .before .before .before .before .before .loop .inv .0) (c .before .before .before .before .before .before .before .before .before .before .before .before .before .before .before .before .before .before .before .before .before .before .before .before .before .pre) (c .before .before .before .before .before .before .before .before .before .before .before .before .before .before .before .before .loop-test .taken) _ (c .before .before .before .before .before .before .before .before .before .before .before .before .before .before .look .ensures .1) _ (c .before .before .before .before .before .before .before .before .before .before .before .before .before .before .look .ensures .0)
+    _ _ (c .before .before .before .before .before .before .before .before .before .before .judge-line .ensures .are) (c .before .before .before .before .before .before .before .before .before .before .judge-line .ensures .few) _ (c .before .before .before .before .before .before .advance .ensures) _ (c .before .before .before .before .before .begins .ensures))
+    (λ c. (
+      c .before .before .before .before .before .before .before .before .before .before .before .before .before .before .look .kept .1 .0 ∙ c .before .before .before .before .before .before .before .before .before .before .before .before .before .before .before .before .before .loop .inv .0,
+      walk-first _ _ _ _ _ _ _ _ _ _ _ _ _ (c .before .before .before .before .before .before .before .before .before .before .before .before .before .before .before .before .before .loop .inv .1) (c .before .before .before .before .before .before .before .before .before .before .before .before .before .before .before .before .before .loop .marks) (c .before .before .before .before .before .before .before .before .before .before .before .before .before .before .before .before .before .loop .inv .0) (c .before .before .before .before .before .before .before .before .before .before .before .before .before .before .before .before .before .before .before .before .before .before .before .before .before .pre) (c .before .before .before .before .before .before .before .before .before .before .before .before .before .before .before .before .loop-test .taken) _ (c .before .before .before .before .before .before .before .before .before .before .before .before .before .before .look .ensures .1) _ (c .before .before .before .before .before .before .before .before .before .before .before .before .before .before .look .ensures .0)
+          _ _ (c .before .before .before .before .before .before .before .before .before .before .judge-line .ensures .are) (c .before .before .before .before .before .before .before .before .before .before .judge-line .ensures .few) _ (c .before .before .before .before .before .before .advance .ensures) _ (c .before .before .before .before .before .begins .ensures) (c .before .before .before .before .before .before .before .before .before .before .judge-line .kept .1 .1 .1 .1 .1 .0) _ (c .before .before .before .before .if1 .taken) (c .before .before .put .ensures),
+    ))
+    (λ c. walk-falls _ _ _ _ _ _ _ _ _ _ _ _ _ (c .before .before .before .before .before .before .before .before .before .before .before .before .before .loop .inv .1) (c .before .before .before .before .before .before .before .before .before .before .before .before .before .loop .marks) (c .before .before .before .before .before .before .before .before .before .before .before .before .before .loop .inv .0) (c .before .before .before .before .before .before .before .before .before .before .before .before .before .before .before .before .before .before .before .before .before .pre) (c .before .before .before .before .before .before .before .before .before .before .before .before .loop-test .taken) _ (c .before .before .before .before .before .before .before .before .before .before .look .ensures .1) _ (c .before .before .before .before .before .before .before .before .before .before .look .ensures .0)
+    _ _ (c .before .before .before .before .before .before .judge-line .ensures .are) (c .before .before .before .before .before .before .judge-line .ensures .few) _ (c .before .before .advance .ensures) _ (c .before .begins .ensures))
+    (λ c. (
+      c .before .before .before .before .before .before .before .before .before .before .look .kept .1 .0 ∙ c .before .before .before .before .before .before .before .before .before .before .before .before .before .loop .inv .0,
+      walk-other _ _ _ _ _ _ _ _ _ _ _ _ _ (c .before .before .before .before .before .before .before .before .before .before .before .before .before .loop .inv .1) (c .before .before .before .before .before .before .before .before .before .before .before .before .before .loop .marks) (c .before .before .before .before .before .before .before .before .before .before .before .before .before .loop .inv .0) (c .before .before .before .before .before .before .before .before .before .before .before .before .before .before .before .before .before .before .before .before .before .pre) (c .before .before .before .before .before .before .before .before .before .before .before .before .loop-test .taken) _ (c .before .before .before .before .before .before .before .before .before .before .look .ensures .1) _ (c .before .before .before .before .before .before .before .before .before .before .look .ensures .0)
+          _ _ (c .before .before .before .before .before .before .judge-line .ensures .are) (c .before .before .before .before .before .before .judge-line .ensures .few) _ (c .before .before .advance .ensures) _ (c .before .begins .ensures) (c .before .before .before .before .before .before .judge-line .kept .1 .1 .1 .1 .1 .0) (c .if1 .left),
+    ))
     (λ c. search for-walk)
     (λ c. search for-walk)
     (λ c. search for-walk))

@@ -1,6 +1,6 @@
 -- `rules_forms::texts::is_positive` meets its contract.
 -- Assumes nothing.
-use Rattle.rules_forms.proofs.ValueNeeds.{for-value}
+use Rattle.rules_forms.proofs.ValueNeeds.{for-is-positive}
 use Rattle.rules_forms.proofs.texts.is_positive.Statement.{statement}
 use Rattle.rules_forms.proofs.texts.is_positive.Tie as tie
 
@@ -8,7 +8,6 @@ pub is-positive-spec : {M : Type 1} → statement M
 is-positive-spec =
     tie.close
     (tie.spec
-    (λ c. search for-value)
-    (λ c. search for-value)
-    (λ c. search for-value)
-    (λ c. search for-value))
+    (λ c. search for-is-positive)
+    (λ c. search for-is-positive)
+    (λ c. search for-is-positive))

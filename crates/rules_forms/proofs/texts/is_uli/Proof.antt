@@ -9,4 +9,5 @@ is-uli-spec =
     tie.close
     (tie.spec
     (λ c. search for-form)
+    (λ c. search for-form)
     (λ c. search for-form))
