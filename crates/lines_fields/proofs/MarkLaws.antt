@@ -10,7 +10,7 @@ use borrow.Author.Tests.{eq-eqb, le-leb, lt-leb, lt-ltb, le-ltb, leb-true, ltb-t
 use lib.Dec.{eqb, ltb, leb}
 use lib.ListN.{length, getD, take, drop, length-drop, List·getD-eq-default}
 use lib.Seq.{drop-drop, take-take}
-use Rattle.house.specs.Text.{Text}
+use Rattle.house.specs.Text.{Text, digits}
 use Rattle.house.proofs.Small.{both}
 use Rattle.lines_fields.specs.declared.Span.{Span}
 use Rattle.lines_fields.specs.Lines.{pipe, lineOf, textLen, lengthen, fieldsOf, fieldOf, fieldsLen}
@@ -21,7 +21,7 @@ use Rattle.lines_fields.proofs.FieldLaws.{lengthen-length, start-zero, 
 use Rattle.lines_fields.proofs.CutLaws.{part-empty, part-drop}
 use Rattle.lines_fields.proofs.PositionLaws.{field-step, cut-there, field-on}
 
--- THE TEXT AS JUDGED: of no bytes none is judged, and no more is judged than is there
+-- THE TEXT AS JUDGED: of no bytes none is judged, no more is judged than is there, and of digits all
 
 pub judged-nil : judgedText [] ≡ []
 unfolding judgedText
@@ -30,6 +30,11 @@ judged-nil = refl
 pub judged-within : (t : Text) → length (judgedText t) ≤ length t
 unfolding judgedText
 judged-within t = omega arith
+
+-- digits are judged as they stand
+pub judged-digits : (t : Text) → digits t ≡ true → judgedText t ≡ t
+unfolding judgedText
+judged-digits t d = refl
 
 -- a field that is not there
 pub judged-none : (t : Text) (f : ℕ) → fieldOf t f ≡ [] → judgedOf t f ≡ []
