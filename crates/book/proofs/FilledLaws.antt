@@ -1,4 +1,4 @@
--- Bytes at a place, one by one: what each need of `lesser`, `few_blanks`, `blanks`, `four_same`, `few_same` and `stands_at` asks, and a text with
+-- Bytes at a place, one by one: what each need of `few_blanks`, `blanks`, `four_same`, `few_same` and `stands_at` asks, and a text with
 -- blanks after it.
 -- Assumes nothing.
 use mathlib.Core.Path.{_≡_, refl, sym, ap, _∙_}
@@ -31,16 +31,6 @@ all-at v (b ∷ t) h (suc k) l = all-at v t (both (eqb b v) (all (isByte v) t) h
 at-all : (v : ℕ) (t : Text) → ((k : ℕ) → k < length t → getD t k 0 ≡ v) → all (isByte v) t ≡ true
 at-all v [] f = refl
 at-all v (b ∷ t) f = rw (eq-eqb b v (f 0 (omega arith))) (at-all v t (λ k l. f (suc k) (omega arith)))
-
--- lesser
-module _ (i j : ℕ) where
-  pub lesser-first : (i ≡ i) ⊎ (i ≡ j)
-  lesser-first = inl refl
-
-  pub lesser-second : (j ≡ i) ⊎ (j ≡ j)
-  lesser-second = inr refl
-
-pub ruleset for-lesser = (needs, lesser-first, lesser-second)
 
 -- few_blanks
 module _ (s : Text) (at : ℕ) where

@@ -1,7 +1,7 @@
 // Codes of entries held against texts that are not padded.
 use house::Order;
+use house::lesser;
 ghost use mathlib.Core.Path.{_≡_};
-ghost use mathlib.Core.Logic.{_⊎_};
 ghost use Prim.Native.Nat.{_≤_, _+_};
 ghost use lib.ListN.{length, take, drop};
 ghost use Rattle.house.specs.Text.{all, isSame};
@@ -20,15 +20,6 @@ pub(crate) fn eight_are(text: &[u8], i: usize, b: u8) -> bool
         & (text[i + 5] == b)
         & (text[i + 6] == b)
         & (text[i + 7] == b)
-}
-
-// The lesser of two places.
-fn lesser(i: usize, j: usize) -> usize
-    ensures { λ r. ⌜ r ≤ i ⌝ }
-    ensures { λ r. ⌜ r ≤ j ⌝ }
-    ensures { λ r. ⌜ (r ≡ i) ⊎ (r ≡ j) ⌝ }
-{
-    if i < j { i } else { j }
 }
 
 // Whether the bytes from a place to another are all blanks, byte by byte.

@@ -2,13 +2,15 @@
 -- Assumes nothing.
 use mathlib.Core.Path.{_≡_, ap, sym, _∙_}
 use mathlib.Core.Bool.{Bool}
-use Prim.Native.Nat.{ℕ}
+use mathlib.Core.Logic.{_⊎_, inl, inr}
+use Prim.Native.Nat.{ℕ, _≤_}
+use native.Mathlib.Omega.{arith}
 use lib.ListN.{length}
 use Rattle.house.specs.declared.Order.{Order}
 use Rattle.house.specs.declared.Key.{Key}
 use Rattle.house.specs.Text.{Text, all, within, orderOf, below, same, pad, isPadded, digits}
 use Rattle.house.specs.Key.{keyOf}
-use Rattle.house.specs.Numbers.{numberAt}
+use Rattle.house.specs.Numbers.{lesserOf, greaterOf, numberAt}
 
 pub compare-one : (a b : Text) (x y : Order) → x ≡ orderOf a b → y ≡ orderOf a b → x ≡ y
 compare-one a b x y p q = cc
@@ -42,3 +44,15 @@ all-within-one lo hi t x y p q = cc
 
 pub wide-one : (p x y : ℕ) → x ≡ p → y ≡ p → x ≡ y
 wide-one p x y e f = cc
+
+pub lesser-byte-one : (a b x y : ℕ) → x ≡ lesserOf a b → y ≡ lesserOf a b → x ≡ y
+lesser-byte-one a b x y p q = cc
+
+pub greater-byte-one : (a b x y : ℕ) → x ≡ greaterOf a b → y ≡ greaterOf a b → x ≡ y
+greater-byte-one a b x y p q = cc
+
+pub lesser-one : (m n x y : ℕ) → x ≤ m → x ≤ n → (x ≡ m) ⊎ (x ≡ n) → y ≤ m → y ≤ n → (y ≡ m) ⊎ (y ≡ n) → x ≡ y
+lesser-one m n x y a b (inl p) c d (inl q) = p ∙ sym q
+lesser-one m n x y a b (inl p) c d (inr q) = omega arith
+lesser-one m n x y a b (inr p) c d (inl q) = omega arith
+lesser-one m n x y a b (inr p) c d (inr q) = p ∙ sym q

@@ -1,4 +1,4 @@
--- What each need of `all_within`, `rises_at`, `no_rise` and `is_padded` asks.
+-- What each need of `lesser_byte`, `greater_byte`, `all_within`, `rises_at`, `no_rise` and `is_padded` asks.
 -- Assumes nothing.
 use mathlib.Core.Path.{_≡_, refl, sym, ap, _∙_, subst}
 use mathlib.Core.Bool.{Bool, true, false, not, cond, _&&_}
@@ -10,22 +10,23 @@ use borrow.Author.Tests.{eq-eqb, ne-eqb, eqb-true, eqb-false, lt-ltb, le-ltb, lt
 use lib.Dec.{eqb, ltb, leb}
 use lib.ListN.{length, getD, drop, length-drop}
 use Rattle.house.specs.Text.{Text, all, within, isBlank, isGraphic, graphicLen, isPadded}
+use Rattle.house.specs.Numbers.{lesserOf, greaterOf}
 use Rattle.house.specs.Inside.{risesAt, staysAt, noRise}
 use Rattle.house.proofs.Small.{both}
 use Rattle.house.proofs.Suffix.{drop-here, drop-past}
 
 -- lesser_byte and greater_byte
 module _ (a b : ℕ) where
-  pub lesser-second : b < a → b ≡ cond (ltb b a) b a
+  pub lesser-second : b < a → b ≡ lesserOf a b
   lesser-second h = rw (lt-ltb _ _ h)
 
-  pub lesser-first : a ≤ b → a ≡ cond (ltb b a) b a
+  pub lesser-first : a ≤ b → a ≡ lesserOf a b
   lesser-first h = rw (le-ltb _ _ h)
 
-  pub greater-second : a < b → b ≡ cond (ltb a b) b a
+  pub greater-second : a < b → b ≡ greaterOf a b
   greater-second h = rw (lt-ltb _ _ h)
 
-  pub greater-first : b ≤ a → a ≡ cond (ltb a b) b a
+  pub greater-first : b ≤ a → a ≡ greaterOf a b
   greater-first h = rw (le-ltb _ _ h)
 
 pub ruleset for-bytes = (needs, lesser-second, lesser-first, greater-second, greater-first)
@@ -35,10 +36,10 @@ abbrev pub rangeIn : ℕ → ℕ → ℕ → ℕ → Text → Bool
 rangeIn lo hi l h t = cond (ltb l lo) false (cond (ltb hi h) false (all (within lo hi) t))
 
 -- a test of one bound is a test of both numbers
-either : Bool → Bool → Bool
+unfoldable pub either : Bool → Bool → Bool
 either p q = cond p true q
 
-lesser-low : (lo l b : ℕ) → ltb (cond (ltb b l) b l) lo ≡ either (ltb l lo) (ltb b lo)
+pub lesser-low : (lo l b : ℕ) → ltb (lesserOf l b) lo ≡ either (ltb l lo) (ltb b lo)
 unfolding either
 lesser-low lo l b = go (ltb b l) (ltb l lo) refl refl
   where
@@ -48,7 +49,7 @@ lesser-low lo l b = go (ltb b l) (ltb l lo) refl refl
     go false true e f = f
     go false false e f = f ∙ sym (le-ltb b lo (omega (arith, ltb-false b l e, ltb-false l lo f)))
 
-greater-high : (hi h b : ℕ) → ltb hi (cond (ltb h b) b h) ≡ either (ltb hi h) (ltb hi b)
+pub greater-high : (hi h b : ℕ) → ltb hi (greaterOf h b) ≡ either (ltb hi h) (ltb hi b)
 unfolding either
 greater-high hi h b = go (ltb h b) (ltb hi h) refl refl
   where
@@ -79,7 +80,7 @@ pub range-holds : (lo hi : ℕ) (t : Text) → all (within lo hi) t ≡ rangeIn 
 range-holds lo hi t = rw (le-ltb lo lo (omega arith), le-ltb hi hi (omega arith))
 
 module _ (t : Text) (lo hi i l h : ℕ) (x : Bool) (inv : x ≡ rangeIn lo hi l h (drop i t)) where
-  pub range-on : (m n : ℕ) → i < length t → m ≡ cond (ltb (getD t i 0) l) (getD t i 0) l → n ≡ cond (ltb h (getD t i 0)) (getD t i 0) h → x ≡ rangeIn lo hi m n (drop (i + 1) t)
+  pub range-on : (m n : ℕ) → i < length t → m ≡ lesserOf l (getD t i 0) → n ≡ greaterOf h (getD t i 0) → x ≡ rangeIn lo hi m n (drop (i + 1) t)
   range-on m n k e f =
       inv
       ∙ rw (drop-here t i k, e, f, lesser-low, greater-high, leb-ltb lo (getD t i 0), leb-ltb (getD t i 0) hi)

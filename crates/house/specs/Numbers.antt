@@ -1,10 +1,16 @@
--- Numbers of four bytes, "lowest first".
+-- Numbers: the lesser and the greater of two, and those of four bytes, "lowest first".
 -- Assumes nothing.
 use Prim.Native.Nat.{ℕ, _+_, _*_}
 use mathlib.Core.Bool.{cond}
 use lib.ListN.{length, getD}
-use lib.Dec.{leb}
+use lib.Dec.{ltb, leb}
 use Rattle.house.specs.Text.{Text}
+
+abbrev pub lesserOf : ℕ → ℕ → ℕ
+lesserOf a b = cond (ltb b a) b a
+
+abbrev pub greaterOf : ℕ → ℕ → ℕ
+greaterOf a b = cond (ltb a b) b a
 
 -- the number that the four bytes at a position write
 unfoldable pub fourBytes : Text → ℕ → ℕ

@@ -3,11 +3,12 @@ ghost use mathlib.Core.Path.{_≡_};
 ghost use mathlib.Core.Bool.{cond};
 ghost use lib.Dec.{eqb, ltb};
 ghost use Rattle.house.specs.Text.{all, within, isPadded};
+ghost use Rattle.house.specs.Numbers.{lesserOf, greaterOf};
 ghost use Rattle.house.specs.Inside.{risesAt, noRise};
 
 // The lesser of two bytes.
-fn lesser_byte(a: u8, b: u8) -> u8
-    ensures { λ r. ⌜ r ≡ cond (ltb b a) b a ⌝ }
+pub fn lesser_byte(a: u8, b: u8) -> u8
+    ensures { λ r. ⌜ r ≡ lesserOf a b ⌝ }
 {
     if b < a {
         return b;
@@ -16,8 +17,8 @@ fn lesser_byte(a: u8, b: u8) -> u8
 }
 
 // The greater of two bytes.
-fn greater_byte(a: u8, b: u8) -> u8
-    ensures { λ r. ⌜ r ≡ cond (ltb a b) b a ⌝ }
+pub fn greater_byte(a: u8, b: u8) -> u8
+    ensures { λ r. ⌜ r ≡ greaterOf a b ⌝ }
 {
     if a < b {
         return b;

@@ -8,7 +8,7 @@ ghost use lib.ListN.{length, take, drop, getD};
 ghost use Rattle.house.specs.Text.{digits, pad, orderOf, below, same};
 
 // The lesser of two numbers.
-fn lesser(m: usize, n: usize) -> usize
+pub fn lesser(m: usize, n: usize) -> usize
     ensures { λ r. ⌜ r ≤ m ⌝ }
     ensures { λ r. ⌜ r ≤ n ⌝ }
     ensures { λ r. ⌜ (r ≡ m) ⊎ (r ≡ n) ⌝ }

@@ -1,4 +1,4 @@
--- What each need of `greater`, `is_printable`, `raised`, `is_plain_but`, `stray_at`, `no_stray`, `is_plain` and `has_right_bytes` asks.
+-- What each need of `is_printable`, `raised`, `is_plain_but`, `stray_at`, `no_stray`, `is_plain` and `has_right_bytes` asks.
 -- Assumes nothing.
 use mathlib.Core.Path.{_≡_, refl, sym, ap, _∙_}
 use mathlib.Core.Bool.{Bool, true, false, not, cond, _&&_}
@@ -9,54 +9,31 @@ use borrow.Author.Needs.{needs}
 use borrow.Author.Tests.{eq-eqb, ne-eqb, eqb-true, lt-ltb, le-ltb, ltb-true, ltb-false, le-leb, lt-leb}
 use lib.Dec.{eqb, ltb, leb}
 use lib.ListN.{length, getD, drop}
-use Rattle.house.specs.Text.{Text}
+use Rattle.house.specs.Text.{Text, all, within}
+use Rattle.house.specs.Numbers.{lesserOf, greaterOf}
 use Rattle.house.proofs.Small.{clash}
 use Rattle.house.proofs.Suffix.{drop-here, drop-past}
+use Rattle.house.proofs.PadLaws.{either, lesser-low, greater-high}
 use Rattle.lines_fields.specs.Lines.{LF, CR}
-use Rattle.lines_fields.specs.Inside.{lesserOf}
 use Rattle.lines.specs.Shape.{printable}
-use Rattle.lines.specs.Inside.{greaterOf, greatest, raisedOf, plainBut, strayAt, noStray, plain}
+use Rattle.lines.specs.Inside.{greatest, raisedOf, plainBut, strayAt, noStray, plain}
 use Rattle.lines.proofs.PlainLaws.{lf-plain, crlf-plain}
 
--- greater
-module _ (a b : ℕ) where
-  pub greater-second : a < b → b ≡ greaterOf a b
-  unfolding greaterOf
-  greater-second h = rw (lt-ltb _ _ h)
-
-  pub greater-first : b ≤ a → a ≡ greaterOf a b
-  unfolding greaterOf
-  greater-first h = rw (le-ltb _ _ h)
-
-pub ruleset for-greater = (needs, greater-second, greater-first)
-
--- is_printable: the answer, where the bytes before those of t are no less than l and no greater than h
-abbrev pub printIn : ℕ → ℕ → Text → Bool
-printIn l h t = cond (ltb l 32) false (cond (ltb 126 h) false (printable t))
-
--- a test of one bound is a test of both numbers
-either : Bool → Bool → Bool
-either p q = cond p true q
-
-lesser-low : (l b : ℕ) → ltb (lesserOf l b) 32 ≡ either (ltb l 32) (ltb b 32)
-unfolding lesserOf either
-lesser-low l b = go (ltb b l) (ltb l 32) refl refl
+-- is_printable
+pub printable-within : (t : Text) (r : Bool) → r ≡ all (within 32 126) t → r ≡ printable t
+unfolding printable
+printable-within t r e = e ∙ go t
   where
-    go : (u v : Bool) → ltb b l ≡ u → ltb l 32 ≡ v → ltb (cond u b l) 32 ≡ cond v true (ltb b 32)
-    go true true e f = lt-ltb b 32 (omega (arith, ltb-true b l e, ltb-true l 32 f))
-    go true false e f = refl
-    go false true e f = f
-    go false false e f = f ∙ sym (le-ltb b 32 (omega (arith, ltb-false b l e, ltb-false l 32 f)))
+    one : (b : ℕ) (p q : Bool) (c : Bool) → ltb b 32 ≡ p → ltb 126 b ≡ q → (leb 32 b && leb b 126) && c ≡ cond p false (cond q false c)
+    one b true q c e f = rw (lt-leb 32 b (ltb-true b 32 e))
+    one b false true c e f = rw (le-leb 32 b (ltb-false b 32 e), lt-leb b 126 (ltb-true 126 b f))
+    one b false false c e f = rw (le-leb 32 b (ltb-false b 32 e), le-leb b 126 (ltb-false 126 b f))
 
-greater-high : (h b : ℕ) → ltb 126 (greaterOf h b) ≡ either (ltb 126 h) (ltb 126 b)
-unfolding greaterOf either
-greater-high h b = go (ltb h b) (ltb 126 h) refl refl
-  where
-    go : (u v : Bool) → ltb h b ≡ u → ltb 126 h ≡ v → ltb 126 (cond u b h) ≡ cond v true (ltb 126 b)
-    go true true e f = lt-ltb 126 b (omega (arith, ltb-true h b e, ltb-true 126 h f))
-    go true false e f = refl
-    go false true e f = f
-    go false false e f = f ∙ sym (le-ltb 126 b (omega (arith, ltb-false h b e, ltb-false 126 h f)))
+    go : (t : Text) → all (within 32 126) t ≡ printable t
+    go [] = refl
+    go (b ∷ t) = one b (ltb b 32) (ltb 126 b) (all (within 32 126) t) refl refl ∙ ap (λ (c : Bool). cond (ltb b 32) false (cond (ltb 126 b) false c)) (go t)
+
+pub ruleset for-is-printable = (needs, printable-within)
 
 -- four tests, one after the other or two and two
 in-turn : (p q u v w : Bool) → cond p false (cond q false (cond u false (cond v false w))) ≡ cond (either p u) false (cond (either q v) false w)
@@ -67,29 +44,6 @@ in-turn false true false v w = refl
 in-turn false false true v w = refl
 in-turn false false false true w = refl
 in-turn false false false false w = refl
-
-pub print-holds : (t : Text) → printable t ≡ printIn 32 126 (drop 0 t)
-print-holds t = refl
-
-module _ (t : Text) (i l h : ℕ) (x : Bool) (inv : x ≡ printIn l h (drop i t)) where
-  pub print-on : (m n : ℕ) → i < length t → m ≡ lesserOf l (getD t i 0) → n ≡ greaterOf h (getD t i 0) → x ≡ printIn m n (drop (i + 1) t)
-  unfolding printable
-  print-on m n k e f =
-      inv ∙ rw (drop-here t i k, e, f, lesser-low, greater-high) (in-turn (ltb l 32) (ltb 126 h) (ltb (getD t i 0) 32) (ltb 126 (getD t i 0)) (printable (drop (i + 1) t)))
-
-  module _ (k : length t ≤ i) where
-    pub print-low : l < 32 → false ≡ x
-    print-low m = rw (inv, lt-ltb _ _ m)
-
-    pub print-high : 32 ≤ l → leb h 126 ≡ x
-    unfolding printable
-    print-high m = rw (inv, le-ltb _ _ m, drop-past t i k) (go (ltb 126 h) refl)
-      where
-        go : (u : Bool) → ltb 126 h ≡ u → leb h 126 ≡ cond u false true
-        go true e = lt-leb h 126 (ltb-true 126 h e)
-        go false e = le-leb h 126 (ltb-false 126 h e)
-
-pub ruleset for-is-printable = (needs, print-holds, print-on, print-low, print-high)
 
 -- raised
 module _ (b e : ℕ) where
@@ -119,7 +73,7 @@ module _ (e : ℕ) (t : Text) (i l h : ℕ) (x : Bool) (inv : x ≡ plainIn e l 
   pub but-on : (r m n : ℕ) → i < length t → r ≡ raisedOf e (getD t i 0) → m ≡ lesserOf l r → n ≡ greaterOf h (getD t i 0) → x ≡ plainIn e m n (drop (i + 1) t)
   unfolding plainBut
   but-on r m n k d f g =
-      inv ∙ rw (drop-here t i k, f, g, lesser-low, greater-high, d) (in-turn (ltb l 32) (ltb 126 h) (ltb (raisedOf e (getD t i 0)) 32) (ltb 126 (getD t i 0)) (plainBut e (drop (i + 1) t)))
+      inv ∙ rw (drop-here t i k, f, g, lesser-low 32, greater-high 126, d) (in-turn (ltb l 32) (ltb 126 h) (ltb (raisedOf e (getD t i 0)) 32) (ltb 126 (getD t i 0)) (plainBut e (drop (i + 1) t)))
 
   module _ (k : length t ≤ i) where
     pub but-low : l < 32 → false ≡ x
@@ -164,7 +118,6 @@ pub stray-holds : (t : Text) → noStray t ≡ strayIn 0 (drop (1 - 1) t)
 stray-holds t = refl
 
 greater-none : (r s : ℕ) → eqb (greaterOf r s) 0 ≡ (eqb r 0 && eqb s 0)
-unfolding greaterOf
 greater-none r s = go (ltb r s) refl (eqb r 0) refl
   where
     go : (u : Bool) → ltb r s ≡ u → (v : Bool) → eqb r 0 ≡ v → eqb (cond u s r) 0 ≡ (v && eqb s 0)

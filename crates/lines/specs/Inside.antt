@@ -15,10 +15,6 @@ use Rattle.lines.specs.Shape.{follows, printable, pipeLast, causeOf}
 unfoldable pub whole : Text → Bool
 whole s = all (λ (l : Line). l .ended) (linesOf s)
 
--- the greater of two bytes
-unfoldable pub greaterOf : ℕ → ℕ → ℕ
-greaterOf a b = cond (ltb a b) b a
-
 -- the greatest byte
 abbrev pub greatest : ℕ
 greatest = 255

@@ -1,41 +1,20 @@
 // The bytes of a line's text, and those of a file: whether one lies outside 32..126.
-use lines_fields::lesser;
+use house::greater_byte;
+use house::lesser_byte;
 use lines_fields::line_at;
 ghost use mathlib.Core.Path.{_≡_};
 ghost use mathlib.Core.Bool.{true};
 ghost use Rattle.lines.specs.Shape.{printable};
-ghost use Rattle.lines.specs.Inside.{greaterOf, raisedOf, plainBut, strayAt, noStray, plain};
+ghost use Rattle.lines.specs.Inside.{raisedOf, plainBut, strayAt, noStray, plain};
 
 // The greatest byte.
 const GREATEST: u8 = 255;
 
-// The greater of two bytes.
-fn greater(a: u8, b: u8) -> u8
-    ensures { λ r. ⌜ r ≡ greaterOf a b ⌝ }
-{
-    if a < b {
-        return b;
-    }
-    a
-}
-
-// Whether each byte of a text lies in 32..126: by its least and its greatest byte, which are found many bytes at a time.
+// Whether each byte of a text lies in 32..126.
 fn is_printable(text: &[u8]) -> bool
     ensures { λ r. ⌜ r ≡ printable (now (text .entry)) ⌝ }
 {
-    let mut low: u8 = 32;
-    let mut high: u8 = 126;
-    let mut i = 0;
-    while i < text.len() {
-        let b = text[i];
-        low = lesser(low, b);
-        high = greater(high, b);
-        i += 1;
-    }
-    if low < 32 {
-        return false;
-    }
-    high <= 126
+    house::all_within(text, 32, 126)
 }
 
 // A byte where the least is looked for: an LF and the byte end count as the greatest.
@@ -51,7 +30,8 @@ fn raised(b: u8, end: u8) -> u8
     b
 }
 
-// Whether each byte of a file lies in 32..126, or below and is an LF or the byte end.
+// Whether each byte of a file lies in 32..126, or below and is an LF or the byte end: by its least and its greatest byte, which are found many
+// bytes at a time.
 fn is_plain_but(file: &[u8], end: u8) -> bool
     ensures { λ r. ⌜ r ≡ plainBut end (now (file .entry)) ⌝ }
 {
@@ -60,8 +40,8 @@ fn is_plain_but(file: &[u8], end: u8) -> bool
     let mut i = 0;
     while i < file.len() {
         let b = file[i];
-        least = lesser(least, raised(b, end));
-        most = greater(most, b);
+        least = lesser_byte(least, raised(b, end));
+        most = greater_byte(most, b);
         i += 1;
     }
     if least < 32 {
@@ -93,7 +73,7 @@ fn no_stray(file: &[u8]) -> bool
     let mut stray: u8 = 0;
     let mut i = 1;
     while i < file.len() {
-        stray = greater(stray, stray_at(file[i - 1], file[i]));
+        stray = greater_byte(stray, stray_at(file[i - 1], file[i]));
         i += 1;
     }
     if stray != 0 {
