@@ -53,14 +53,29 @@ orderAt s k from code i = orderOf (codeAt s k from i) code
 unfoldable pub foundAt : ℕ → ℕ → ℕ → Found
 foundAt k from i = At (record { at = placeOf k from i })
 
--- the hash of a text, a number below 32768: by its bytes, of which a blank counts 0, so the same with and without blanks after it
+-- so many hashes there are
+abbrev pub hashes : ℕ
+hashes = 32768
+
+-- so much less a byte counts, modulo the hashes, so that a blank counts 0
+abbrev pub lessBlank : ℕ
+lessBlank = 32736
+
+-- what the text after the first byte counts for, and the second text of a code after the first
+abbrev pub textWeight : ℕ
+textWeight = 37
+
+abbrev pub secondWeight : ℕ
+secondWeight = 1021
+
+-- the hash of a text: by its bytes, of which a blank counts 0, so the same with and without blanks after it
 unfoldable pub hashOf : Text → ℕ
 hashOf [] = 0
-hashOf (b ∷ t) = (hashOf t * 37 + b + 32736) % 32768
+hashOf (b ∷ t) = (hashOf t * textWeight + b + lessBlank) % hashes
 
 -- the hash of a code of kind k: of the kind, of the code or the first of two, and of the second
 unfoldable pub codeHash : ℕ → Text → ℕ
-codeHash k code = (hashOf (drop (firstWidth k) code) * 1021 + hashOf (take (firstWidth k) code) + k) % 32768
+codeHash k code = (hashOf (drop (firstWidth k) code) * secondWeight + hashOf (take (firstWidth k) code) + k) % hashes
 
 -- which entry of a kind the table from `end` on names for a code: two bytes, the lower first; 0 for a byte that is not there
 unfoldable pub entryHashed : Text → ℕ → ℕ → Text → ℕ

@@ -9,7 +9,7 @@ ghost use mathlib.Core.List.{_++_};
 ghost use Prim.Native.Nat.{_<_, _≤_, _+_, _-_, _*_, _%_};
 ghost use lib.ListN.{length, drop, set, getD};
 ghost use Rattle.book.specs.Book.{codeText};
-ghost use Rattle.book.specs.LookUp.{hashOf, entryHashed, hashEntry, hashKind, hashKinds, withHashTable};
+ghost use Rattle.book.specs.LookUp.{hashes, secondWeight, hashOf, entryHashed, hashEntry, hashKind, hashKinds, withHashTable};
 ghost use Rattle.book.specs.Inside.{fits, WidthsAre};
 
 // A byte, as a number to reckon with.
@@ -20,26 +20,37 @@ fn value(b: u8) -> usize
     b as usize
 }
 
-// The hash of a text. A blank counts 0, for 32 + 32736 is 32768.
+// So many hashes there are.
+const HASHES: usize = 32768;
+
+// So much less a byte counts, modulo the hashes: a blank counts 0.
+const LESS_BLANK: usize = 32736;
+
+// What the text after the first byte counts for, and the second text of a code after the first.
+const TEXT_WEIGHT: usize = 37;
+
+const SECOND_WEIGHT: usize = 1021;
+
+// The hash of a text.
 fn hash(text: &[u8]) -> usize
     ensures { λ r. ⌜ r ≡ hashOf (now (text .entry)) ⌝ }
-    ensures { λ r. ⌜ r < 32768 ⌝ }
+    ensures { λ r. ⌜ r < hashes ⌝ }
 {
     let mut h = 0;
     let mut i = text.len();
     while 0 < i {
         i -= 1;
-        h = (h * 37 + value(text[i]) + 32736) % 32768;
+        h = (h * TEXT_WEIGHT + value(text[i]) + LESS_BLANK) % HASHES;
     }
     h
 }
 
 // The hash of a code of a kind, given as two texts.
 fn hash_of(k: u8, a: &[u8], b: &[u8]) -> usize
-    ensures { λ r. ⌜ r ≡ (hashOf (now (b .entry)) * 1021 + hashOf (now (a .entry)) + k) % 32768 ⌝ }
-    ensures { λ r. ⌜ r < 32768 ⌝ }
+    ensures { λ r. ⌜ r ≡ (hashOf (now (b .entry)) * secondWeight + hashOf (now (a .entry)) + k) % hashes ⌝ }
+    ensures { λ r. ⌜ r < hashes ⌝ }
 {
-    (hash(b) * 1021 + hash(a) + value(k)) % 32768
+    (hash(b) * SECOND_WEIGHT + hash(a) + value(k)) % HASHES
 }
 
 // The byte of a table at a place, 0 past its end.

@@ -17,7 +17,7 @@ use Rattle.house.proofs.Suffix.{drop-here, drop-past, eight}
 use Rattle.house.proofs.Small.{clash}
 use Rattle.lines_fields.specs.declared.LineAt.{LineAt}
 use Rattle.lines_fields.specs.Lines.{LF, CR, lfNext, endingOf, linesOf, lineOf, textLen, lineLen, lineAt, LineIs, textAt, linesLen}
-use Rattle.lines_fields.specs.Inside.{lesserOf, isLow}
+use Rattle.lines_fields.specs.Inside.{isLow}
 use Rattle.lines_fields.proofs.LineLaws.{ending-plain, text-more, text-stop, text-nil, ended-is, line-is, at-next, at-text, left-falls, text-after}
 
 -- ending
@@ -50,27 +50,6 @@ module _ (s : Text) (i : ℕ) where
         ending-cr k g = rw (drop-here s i h, ne-eqb _ _ e, eq-eqb _ _ f, drop-here s (i + 1) k, ne-eqb _ _ g)
 
 pub ruleset for-ending = (needs, ending-past, ending-lf, ending-other, ending-last, ending-crlf, ending-cr)
-
--- lesser
-module _ (a b : ℕ) where
-  pub lesser-second : b < a → b ≡ lesserOf a b
-  unfolding lesserOf
-  lesser-second h = rw (lt-ltb _ _ h)
-
-  pub lesser-first : a ≤ b → a ≡ lesserOf a b
-  unfolding lesserOf
-  lesser-first h = rw (le-ltb _ _ h)
-
-  -- it is below neither
-  lesser-le : (lesserOf a b ≤ a) × (lesserOf a b ≤ b)
-  unfolding lesserOf
-  lesser-le = go (ltb b a) refl
-    where
-      go : (t : Bool) → ltb b a ≡ t → (cond t b a ≤ a) × (cond t b a ≤ b)
-      go true e = (omega (arith, ltb-true b a e), omega arith)
-      go false e = (omega arith, ltb-false b a e)
-
-pub ruleset for-lesser = (needs, lesser-second, lesser-first)
 
 -- eight_low
 either : (a b c d e f g h : Bool) → (a || b || c || d || e || f || g || h) ≡ (a || (b || (c || (d || (e || (f || (g || (h || false))))))))

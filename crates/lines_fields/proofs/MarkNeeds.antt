@@ -1,4 +1,4 @@
--- What each need of `mark_pipes`, `mark` and `read_line` asks: how the marks of a line are written.
+-- What each need of `mark_pipes`, `mark`, `read_line` and `count_marked` asks: how the marks of a line are written, and its fields counted.
 -- Assumes nothing.
 use mathlib.Core.Path.{_≡_, refl, sym, ap, subst, _∙_}
 use mathlib.Core.Bool.{Bool, true, false, cond}
@@ -9,14 +9,14 @@ use native.Mathlib.Omega.{arith}
 use borrow.Author.Needs.{needs}
 use borrow.Author.Tests.{eq-eqb, ne-eqb, eqb-true, eqb-false, le-leb, lt-leb}
 use lib.Dec.{eqb}
-use lib.ListN.{length, getD, take, drop, set, length-set, length-drop}
+use lib.ListN.{length, getD, take, drop, set, length-set, length-drop, List·getD-eq-default}
 use lib.Seq.{getD-set-same, getD-set-other, ext-getD}
 use Rattle.house.specs.Text.{Text}
 use Rattle.house.proofs.Suffix.{drop-here}
 use Rattle.lines_fields.specs.declared.LineAt.{LineAt}
 use Rattle.lines_fields.specs.Lines.{pipe, lineOf, textLen, LineIs, fieldsOf, fieldsLen}
 use Rattle.lines_fields.specs.Inside.{Marked, Marking}
-use Rattle.lines_fields.specs.Marks.{markBytes, marksOf, marksAt, marksIn}
+use Rattle.lines_fields.specs.Marks.{markCount, markBytes, marksOf, marksAt, marksIn, markedCount}
 use Rattle.lines_fields.proofs.LineLaws.{text-is, text-le, at-end}
 use Rattle.lines_fields.proofs.FieldLaws.{lengthen-length, start-zero, fields-few}
 use Rattle.lines_fields.proofs.MarkLaws.{marks-length, mark-at, mark-count, fields-past}
@@ -211,3 +211,9 @@ module _ (s : Text) (at : ℕ) (m : List ℕ) where
       read-marks y h e = rw (r, le-leb (length s) 4294967295 l, le-leb at (length s) h) e
 
 pub ruleset for-read-line = (needs, at-end, read-room, read-large, read-past, read-marks)
+
+-- count_marked
+pub count-none : (m : List ℕ) → length m < markCount → 0 ≡ markedCount m
+count-none m h = sym (List·getD-eq-default m 0 (omega arith))
+
+pub ruleset for-count-marked = (needs, count-none)

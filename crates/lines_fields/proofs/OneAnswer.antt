@@ -8,9 +8,9 @@ use lib.ListN.{length, drop}
 use Rattle.house.specs.Text.{Text}
 use Rattle.lines_fields.specs.declared.LineAt.{LineAt}
 use Rattle.lines_fields.specs.Lines.{lineOf, fieldsOf, fieldOf, fieldText, fieldThere, fieldPosition, fieldsLen, LineIs}
-use Rattle.lines_fields.specs.Inside.{part, lesserOf}
+use Rattle.lines_fields.specs.Inside.{part}
 use Rattle.lines_fields.specs.declared.Span.{Span}
-use Rattle.lines_fields.specs.Marks.{judgedOf, marksIn, judgedIn, judgedSpan}
+use Rattle.lines_fields.specs.Marks.{judgedOf, marksIn, markedCount, judgedIn, judgedSpan}
 
 one : {A : Type 0} {x r q : A} → r ≡ x → q ≡ x → r ≡ q
 one e f = e ∙ sym f
@@ -60,5 +60,5 @@ has-field s n f r q = one
 field-position : (s : Text) (n f : ℕ) (r q : ℕ) → r ≡ fieldPosition s n f → q ≡ fieldPosition s n f → r ≡ q
 field-position s n f r q = one
 
-lesser : (a b r q : ℕ) → r ≡ lesserOf a b → q ≡ lesserOf a b → r ≡ q
-lesser a b r q = one
+count-marked : (m : List ℕ) (r q : ℕ) → r ≡ markedCount m → q ≡ markedCount m → r ≡ q
+count-marked m r q = one

@@ -18,10 +18,6 @@ unfoldable pub pipeLen : Text → ℕ
 pipeLen [] = 0
 pipeLen (b ∷ t) = cond (eqb b pipe) 0 (suc (pipeLen t))
 
--- the lesser of two bytes
-unfoldable pub lesserOf : ℕ → ℕ → ℕ
-lesserOf a b = cond (ltb b a) b a
-
 -- a byte that may end a line: it is below 14, as LF and CR are
 unfoldable pub isLow : ℕ → Bool
 isLow b = ltb b 14

@@ -25,6 +25,10 @@ judgedOf t f = judgedText (fieldOf t f)
 abbrev pub markCount : ℕ
 markCount = 30
 
+-- the last of them counts the line's fields
+abbrev pub countMark : ℕ
+countMark = 29
+
 -- so many fields are marked: more than any record has
 abbrev pub markMost : ℕ
 markMost = 28
@@ -40,7 +44,7 @@ marksFrom f zero at t = length (fieldsOf t) ∷ []
 marksFrom f (suc n) at t = (at + fieldsLen f t) ∷ marksFrom (suc f) n at t
 
 unfoldable pub marksOf : ℕ → Text → List ℕ
-marksOf at t = marksFrom 0 29 at t
+marksOf at t = marksFrom 0 countMark at t
 
 -- the marks of the line of file s that starts at position at
 unfoldable pub marksAt : Text → ℕ → List ℕ
@@ -52,11 +56,15 @@ marksIn s at m = cond (eqb (length m) markCount && (leb (length s) markBytes && 
 
 -- FIELDS BY MARKS, whatever numbers these are
 
+-- how many fields are counted
+abbrev pub markedCount : List ℕ → ℕ
+markedCount m = getD m countMark 0
+
 -- field f is marked, and its text and its pipe lie in the file
 unfoldable pub isMarked : Text → List ℕ → ℕ → Bool
 isMarked s m f =
     eqb (length m) markCount
-    && (ltb 0 f && (leb f markMost && (leb f (getD m 29 0) && (ltb (getD m (f - 1) 0) (getD m f 0) && leb (getD m f 0) (length s)))))
+    && (ltb 0 f && (leb f markMost && (leb f (markedCount m) && (ltb (getD m (f - 1) 0) (getD m f 0) && leb (getD m f 0) (length s)))))
 
 -- field f as it stands: from its mark to before its pipe; empty where it is not marked
 unfoldable pub markedField : Text → List ℕ → ℕ → Text

@@ -5,7 +5,7 @@ ghost use Prim.Native.Nat.{_≤_, _+_, _-_};
 ghost use lib.ListN.{take, drop, length};
 ghost use Rattle.house.specs.Text.{any};
 ghost use Rattle.lines_fields.specs.Lines.{endingOf, textLen, LineIs, textAt, linesLen};
-ghost use Rattle.lines_fields.specs.Inside.{lesserOf, isLow};
+ghost use Rattle.lines_fields.specs.Inside.{isLow};
 
 // How many bytes the line ending at a position has, 0 for none.
 pub(crate) fn ending(file: &[u8], at: usize) -> usize
@@ -30,16 +30,6 @@ pub(crate) fn ending(file: &[u8], at: usize) -> usize
         return 0;
     }
     2
-}
-
-// The lesser of two bytes.
-pub fn lesser(a: u8, b: u8) -> u8
-    ensures { λ r. ⌜ r ≡ lesserOf a b ⌝ }
-{
-    if b < a {
-        return b;
-    }
-    a
 }
 
 // A byte below this one may end a line.

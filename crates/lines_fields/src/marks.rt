@@ -11,7 +11,7 @@ ghost use Prim.Native.Nat.{_+_, _≤_};
 ghost use lib.ListN.{drop, length};
 ghost use Rattle.lines_fields.specs.Lines.{lineOf, fieldsOf, textLen, LineIs};
 ghost use Rattle.lines_fields.specs.Inside.{part, Marked};
-ghost use Rattle.lines_fields.specs.Marks.{judgedText, judgedOf, markBytes, marksAt, marksIn, judgedIn, judgedSpan, span};
+ghost use Rattle.lines_fields.specs.Marks.{judgedText, judgedOf, markBytes, markCount, markedCount, marksAt, marksIn, judgedIn, judgedSpan, span};
 
 // Fields are marked up to this number.
 const MOST_MARKED: usize = 28;
@@ -27,7 +27,7 @@ fn mark_pipes(file: &[u8], at: usize, end: usize, marks: &mut [u32]) -> usize
     requires { ⌜ length (now file) ≤ markBytes ⌝ }
     requires { ⌜ at ≤ length (now file) ⌝ }
     requires { ⌜ end ≡ at + textLen (drop at (now file)) ⌝ }
-    requires { ⌜ length (now marks) ≡ 30 ⌝ }
+    requires { ⌜ length (now marks) ≡ markCount ⌝ }
     ensures { λ r. ⌜ r ≡ length (fieldsOf (lineOf (drop at (now (file .entry))) .text)) ⌝ }
     ensures { λ r. ⌜ r ≤ length (now (file .entry)) ⌝ }
     ensures { λ r. ⌜ Marked at (lineOf (drop at (now (file .entry))) .text) (r + 1) (now (marks .exit)) ⌝ }
@@ -55,7 +55,7 @@ fn mark(file: &[u8], at: usize, end: usize, marks: &mut [u32])
     requires { ⌜ length (now file) ≤ markBytes ⌝ }
     requires { ⌜ at ≤ length (now file) ⌝ }
     requires { ⌜ end ≡ at + textLen (drop at (now file)) ⌝ }
-    requires { ⌜ length (now marks) ≡ 30 ⌝ }
+    requires { ⌜ length (now marks) ≡ markCount ⌝ }
     ensures { λ _. ⌜ now (marks .exit) ≡ marksAt (now (file .entry)) at ⌝ }
 {
     let n = mark_pipes(file, at, end, marks);
@@ -85,6 +85,16 @@ pub fn read_line(file: &[u8], at: usize, marks: &mut [u32]) -> LineAt
     let end = l.end;
     mark(file, at, end, marks);
     l
+}
+
+// How many fields a line with these marks has.
+pub fn count_marked(marks: &[u32]) -> usize
+    ensures { λ r. ⌜ r ≡ markedCount (now (marks .entry)) ⌝ }
+{
+    if marks.len() < MARKS {
+        return 0;
+    }
+    wide(marks[COUNT_MARK])
 }
 
 // The part of a field that is judged: all of it.

@@ -22,6 +22,7 @@ use Rattle.rules_walk.proofs.StartLaws.{start-upto}
 use Rattle.rules_walk.proofs.OverLaws.{over-more}
 use Rattle.rules.specs.declared.State.{State}
 use Rattle.rules.specs.Inside.{Kept, kept, keep}
+use Rattle.rules.specs.Fields.{lineMost}
 use Rattle.rules.specs.Under.{findingsUnder}
 use Rattle.rules.specs.Walk.{lineRec, linesBefore, Holds, startState}
 use Rattle.rules.specs.Turned.{Turn, TurnAt, restOf, TurnIs}
@@ -45,7 +46,7 @@ module _ (s : Setting) (file table area₀ : Text) where
   pub record Walking (at : ℕ) (st : State) (found : ℕ) (area : Text) : Type 0 where
     pub holds : Holds file at st
     pub within : at ≤ length file
-    pub few : found ≤ 84 * at
+    pub few : found ≤ lineMost * at
     pub size : length area ≡ length area₀
     pub left : keep (findingsUnder s file table) (kept 0 area₀) ≡ keep (restOf s file table at (st .n)) (kept found area)
 

@@ -9,7 +9,7 @@ use native.Mathlib.Omega.{arith}
 use borrow.Author.Needs.{needs}
 use borrow.Author.Tests.{ne-eqb, eqb-true, lt-ltb, le-ltb, ltb-true, ltb-false}
 use lib.Dec.{eqb, ltb}
-use lib.ListN.{length, getD, List·getD-eq-default}
+use lib.ListN.{length}
 use Rattle.house.specs.Text.{Text}
 use Rattle.lines_fields.specs.Marks.{judgedIn}
 use Rattle.rules_forms.specs.FieldLeaves.{relaxedIf}
@@ -45,12 +45,6 @@ module _ (k : ℕ) (g : Bookless k) where
   other-ia = g .no-ia
 
 pub ruleset for-judge-other = (needs, field-any, other-ii, other-ie, other-in, other-ia)
-
--- count_marked
-pub count-none : (m : List ℕ) → length m < 30 → 0 ≡ getD m 29 0
-count-none m h = sym (List·getD-eq-default m 0 (omega arith))
-
-pub ruleset for-count-marked = (needs, count-none)
 
 -- last_field
 module _ (k : ℕ) where

@@ -9,7 +9,7 @@ use borrow.Author.Needs.{needs}
 use lib.ListN.{length, getD, drop}
 use Rattle.house.specs.Text.{Text}
 use Rattle.lines_fields.specs.Lines.{lineOf}
-use Rattle.lines_fields.specs.Marks.{marksAt}
+use Rattle.lines_fields.specs.Marks.{marksAt, markedCount}
 use Rattle.lines_fields.proofs.MarkLaws.{mark-count}
 use Rattle.lines.specs.Records.{Rec, recOf}
 use Rattle.rules_definitions.specs.Seen.{Setting, Seen}
@@ -18,7 +18,7 @@ use Rattle.rules_fields.specs.declared.Broken.{Broken}
 use Rattle.rules.specs.declared.By.{By}
 use Rattle.rules.specs.declared.Here.{Here}
 use Rattle.rules.specs.Inside.{kept, keep, listed}
-use Rattle.rules.specs.Fields.{Told, Bookless, Judges, JudgesLine, lastOf, nextField}
+use Rattle.rules.specs.Fields.{Told, Bookless, lineMost, Judges, JudgesLine, lastOf, nextField}
 use Rattle.rules.proofs.KeepLaws.{keep-append}
 use Rattle.rules.proofs.BlankLaws.{first-blank, last-blank, ip-blank, blank-run, blank-skip, fields-on}
 use Rattle.rules.proofs.LastNeeds.{in-line, in-marks, past-last, next-ii, next-ie, next-in, next-ia, next-is, next-later}
@@ -27,8 +27,8 @@ use Rattle.rules.proofs.LastNeeds.{in-line, in-marks, past-last, next-i
 module _ (file : Text) (marks : List ℕ) (h : Here) (book : Text) (by : By) (count : ℕ) (area₀ : Text) where
   -- what is left of a line's findings, from field f on
   pub record Going (last f c : ℕ) (area : Text) : Type 0 where
-    pub all : last ≡ lastOf (h .kind) (getD marks 29 0)
-    pub bound : count + 84 < 2 ^ 64
+    pub all : last ≡ lastOf (h .kind) (markedCount marks)
+    pub bound : count + lineMost < 2 ^ 64
     pub from : 2 ≤ f
     pub upto : f ≤ 26
     pub few : c + 6 ≤ count + 3 * f
@@ -37,7 +37,7 @@ module _ (file : Text) (marks : List ℕ) (h : Here) (book : Text) (by : By) (co
         → keep (fieldsFindings s (h .n) v 1 (length (v .line .fields))) (kept count area₀) ≡ keep (fieldsFindings s (h .n) v f (length (v .line .fields) + 1 - f)) (kept c area)
 
   -- of a line of kind k
-  pub going-start : (k last n : ℕ) → h .kind ≡ k → last ≡ lastOf k n → n ≡ getD marks 29 0 → count + 84 < 2 ^ 64 → Going last 2 count area₀
+  pub going-start : (k last n : ℕ) → h .kind ≡ k → last ≡ lastOf k n → n ≡ markedCount marks → count + lineMost < 2 ^ 64 → Going last 2 count area₀
   going-start k last n z e d b =
       record {
         all = e ∙ ap (λ (k : ℕ). lastOf k n) (sym z) ∙ ap (lastOf (h .kind)) d;
@@ -53,10 +53,10 @@ module _ (file : Text) (marks : List ℕ) (h : Here) (book : Text) (by : By) (co
             rw (u, blank-skip s v (h .n) 1 1 m (λ g i j. first-blank s v g (omega arith)));
       }
 
-  counted : (s : Setting) (v : Seen) → Told file marks h book by s v → getD marks 29 0 ≡ length (v .line .fields)
+  counted : (s : Setting) (v : Seen) → Told file marks h book by s v → markedCount marks ≡ length (v .line .fields)
   unfolding marksAt recOf
   counted s v w =
-      ap (λ (m : List ℕ). getD m 29 0) (w .marked)
+      ap markedCount (w .marked)
       ∙ mark-count (h .at) (lineOf (drop (h .at) file) .text)
       ∙ ap (λ (l : Rec). length (l .fields)) (sym (w .line-is))
 
@@ -71,14 +71,14 @@ module _ (file : Text) (marks : List ℕ) (h : Here) (book : Text) (by : By) (co
         (blank-run s v (h .n) f (length (v .line .fields) + 1 - f)
         (λ j a b.
         last-blank s v (h .kind) j (sym (w .kind-is))
-        (past-last (h .kind) (getD marks 29 0) j (omega (arith, g .all)) (omega (arith, counted s v w))))))
+        (past-last (h .kind) (markedCount marks) j (omega (arith, g .all)) (omega (arith, counted s v w))))))
 
     pub going-end : last < f → JudgesLine file marks h book by count area₀ c area
     going-end i = record { are = none-left i; few = omega (arith, g .few, g .upto) }
 
     module _ (i : f ≤ last) where
       most : f ≤ 25
-      most = omega (arith, g .all, in-marks (h .kind) (getD marks 29 0))
+      most = omega (arith, g .all, in-marks (h .kind) (markedCount marks))
 
       pub going-marked : f ≤ 28
       going-marked = omega (arith, most)
@@ -110,7 +110,7 @@ module _ (file : Text) (marks : List ℕ) (h : Here) (book : Text) (by : By) (co
             step s v w =
                 g .left s v w
                 ∙ rw (
-                  fields-on s v (h .n) f (length (v .line .fields) + 1 - f) (omega (arith, g .all, counted s v w, in-line (h .kind) (getD marks 29 0))),
+                  fields-on s v (h .n) f (length (v .line .fields) + 1 - f) (omega (arith, g .all, counted s v w, in-line (h .kind) (markedCount marks))),
                   keep-append,
                   ← j .are s v w,
                   ← m,
@@ -140,7 +140,7 @@ module _ (file : Text) (marks : List ℕ) (h : Here) (by : By) (count : ℕ) (ar
   pub record GoingBy (last f c : ℕ) (area : Text) : Type 0 where
     pub going : (book : Text) → Going file marks h book by count area₀ last f c area
 
-  pub by-start : (last n : ℕ) → last ≡ lastOf (h .kind) n → n ≡ getD marks 29 0 → count + 84 < 2 ^ 64 → GoingBy last 2 count area₀
+  pub by-start : (last n : ℕ) → last ≡ lastOf (h .kind) n → n ≡ markedCount marks → count + lineMost < 2 ^ 64 → GoingBy last 2 count area₀
   by-start last n e d b = record { going = λ book. going-start file marks h book by count area₀ (h .kind) last n refl e d b }
 
   module _ (last f c : ℕ) (area : Text) (g : GoingBy last f c area) where

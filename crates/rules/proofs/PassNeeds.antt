@@ -16,7 +16,7 @@ use Rattle.rules.specs.declared.Here.{Here}
 use Rattle.rules.specs.declared.By.{By}
 use Rattle.rules.specs.Inside.{kept, keep}
 use Rattle.rules.specs.Look.{settingBy}
-use Rattle.rules.specs.Fields.{Told}
+use Rattle.rules.specs.Fields.{lineMost, Told}
 use Rattle.rules.specs.Walk.{ReadIn, LookAt, HereIs}
 use Rattle.rules.specs.Advance.{advanced}
 use Rattle.rules.specs.Turned.{Turn, TurnAt, TurnIs}
@@ -38,7 +38,7 @@ module _ (s : Setting) (file table area₀ : Text) (old : List ℕ) (at : ℕ) (
   pub walk-numbers : (st .n + 1 < 2 ^ 64) × (st .place + 1 < 2 ^ 64) × (st .«not_immunized» + 1 < 2 ^ 64)
   walk-numbers = turn-numbers file m now come
 
-  pub walk-findings : found + 84 < 2 ^ 64
+  pub walk-findings : found + lineMost < 2 ^ 64
   walk-findings = turn-findings file m now come
 
   -- once it is read
@@ -51,7 +51,7 @@ module _ (file book ledger : Text) (by : By) (table area₀ : Text) (old : List 
     (g : Gathering (settingBy (by .today) book (by .sections) (foundIn ledger (by .live))) file table area₀ old at st found area firsts n) (m : List ℕ) (r : length m ≡ 30)
     (short : length file ≤ 5000000) (l : at < length file) (m2 : List ℕ) (e : m2 ≡ marksAt file at) (y : Here) (i : HereIs file at st table ledger (by .live) y)
     (after : Text) (c : ℕ) (j : (s : Setting) (v : Seen) → Told file m2 y book by s v → kept c after ≡ keep (fieldsFindings s (y .n) v 1 (length (v .line .fields))) (kept found area))
-    (k : c ≤ found + 84) (st2 : State) (z : st2 ≡ advanced file m2 st y) (f : Bool) (b : f ≡ y .facts .inb && not (y .facts .joined)) where
+    (k : c ≤ found + lineMost) (st2 : State) (z : st2 ≡ advanced file m2 st y) (f : Bool) (b : f ≡ y .facts .inb && not (y .facts .joined)) where
   abbrev S : Setting
   S = settingBy (by .today) book (by .sections) (foundIn ledger (by .live))
 

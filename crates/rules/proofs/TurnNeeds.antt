@@ -24,7 +24,7 @@ use Rattle.rules.specs.declared.By.{By}
 use Rattle.rules_fields.specs.declared.Facts.{Facts}
 use Rattle.rules.specs.Inside.{kept, keep}
 use Rattle.rules.specs.Look.{settingBy}
-use Rattle.rules.specs.Fields.{Looks, Told}
+use Rattle.rules.specs.Fields.{Looks, lineMost, Told}
 use Rattle.rules.specs.Under.{withRepeated, lineFindingsBy}
 use Rattle.rules.specs.Walk.{ReadIn, lineRec, Holds, LookAt, hereWith, HereIs}
 use Rattle.rules.specs.Advance.{advanced}
@@ -99,7 +99,7 @@ module _ (file : Text) (m₀ : List ℕ) (t : Turn) (g : TurnAt file m₀ t) whe
   pub turn-numbers : (t .st .n + 1 < 2 ^ 64) × (t .st .place + 1 < 2 ^ 64) × (t .st .«not_immunized» + 1 < 2 ^ 64)
   turn-numbers = (omega (arith, h .n-small, less, g .looks .short), omega (arith, h .place-small, less, g .looks .short), omega (arith, h .not-immunized-small, less, g .looks .short))
 
-  pub turn-findings : t .count + 84 < 2 ^ 64
+  pub turn-findings : t .count + lineMost < 2 ^ 64
   turn-findings = omega (arith, g .few, less, g .looks .short)
 
   module _ (m : List ℕ) (e : m ≡ marksAt file (t .at)) where
@@ -122,7 +122,7 @@ module _ (file : Text) (m₀ : List ℕ) (t : Turn) (g : TurnAt file m₀ t) whe
 
       pub turned-is : (area after : Text) (c : ℕ) (st2 : State) (f : Bool)
           → ((s : Setting) (v : Seen) → Told file m y book by s v → kept c after ≡ keep (fieldsFindings s (y .n) v 1 (length (v .line .fields))) (kept (t .count) area))
-          → c ≤ t .count + 84 → st2 ≡ advanced file m (t .st) y → f ≡ y .facts .inb && not (y .facts .joined)
+          → c ≤ t .count + lineMost → st2 ≡ advanced file m (t .st) y → f ≡ y .facts .inb && not (y .facts .joined)
           → TurnIs (settingBy (by .today) book (by .sections) (foundIn ledger (by .live))) file table t area (record { at = y .next; st = st2; count = c; first = f }) after
       unfolding advanced
       turned-is area after c st2 f j k z b =

@@ -85,10 +85,14 @@ pub record Bookless (k : ℕ) : Type 0 where
   pub no-in : k ≡ IN → ⊥
   pub no-ia : k ≡ IA → ⊥
 
+-- the most findings of a line: three at each of its 28 fields
+abbrev pub lineMost : ℕ
+lineMost = 84
+
 -- the findings of all fields of a line are put to the others
 pub record JudgesLine (file : Text) (marks : List ℕ) (h : Here) (book : Text) (by : By) (count : ℕ) (area : Text) (r : ℕ) (after : Text) : Type 0 where
   pub are : (s : Setting) (v : Seen) → Told file marks h book by s v → kept r after ≡ keep (fieldsFindings s (h .n) v 1 (length (v .line .fields))) (kept count area)
-  pub few : r ≤ count + 84
+  pub few : r ≤ count + lineMost
 
 -- the event of the II with these marks is relaxed
 unfoldable pub relaxedIn : Text → List ℕ → Bool

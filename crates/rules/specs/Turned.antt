@@ -14,6 +14,7 @@ use Rattle.rules_definitions.specs.Seen.{Setting}
 use Rattle.rules_definitions.specs.Findings.{Finding}
 use Rattle.rules.specs.declared.State.{State}
 use Rattle.rules.specs.Inside.{kept, keep}
+use Rattle.rules.specs.Fields.{lineMost}
 use Rattle.rules.specs.Under.{lineFindingsBy}
 use Rattle.rules.specs.Walk.{lineRec, linesBefore, Holds, LookAt}
 
@@ -27,7 +28,7 @@ pub record Turn : Type 0 where
 -- a walk has come to a line, and has not too many findings
 pub record TurnAt (file : Text) (m : List ℕ) (t : Turn) : Type 0 where
   pub looks : LookAt file m (t .at) (t .st)
-  pub few : t .count ≤ 84 * t .at
+  pub few : t .count ≤ lineMost * t .at
 
 -- the findings of the lines from a position on, the first of them line n, rule 15 by a table
 unfoldable pub restOf : Setting → Text → Text → ℕ → ℕ → List Finding
@@ -39,7 +40,7 @@ pub record TurnIs (s : Setting) (file table : Text) (t : Turn) (area : Text) (r 
   pub next-is : r .at ≡ t .at + lineLen (drop (t .at) file)
   pub on : t .at < r .at
   pub upto : r .at ≤ length file
-  pub few : r .count ≤ 84 * r .at
+  pub few : r .count ≤ lineMost * r .at
   pub left : keep (restOf s file table (t .at) (t .st .n)) (kept (t .count) area) ≡ keep (restOf s file table (r .at) (r .st .n)) (kept (r .count) after)
   pub first-is : r .first ≡ begins (lineRec file (t .at)) (linesBefore file (t .at))
   pub before-is : lineRec file (t .at) ∷ linesBefore file (t .at) ≡ linesBefore file (r .at)

@@ -11,7 +11,7 @@ use Rattle.house.specs.Text.{Text, those, howMany, front, isEmpty, within, same
 use Rattle.dates.specs.Dates.{isDate}
 use Rattle.lines_fields.specs.declared.Span.{Span}
 use Rattle.lines_fields.specs.Lines.{lineOf, lineLen}
-use Rattle.lines_fields.specs.Marks.{marksAt, span, judgedSpan}
+use Rattle.lines_fields.specs.Marks.{markCount, marksAt, span, judgedSpan}
 use Rattle.lines.specs.Records.{Rec, IP, II, IE, IN, IA, isKind, recOf, recs}
 use Rattle.lines.specs.Inside.{whole}
 use Rattle.lines_fields.specs.Inside.{part}
@@ -212,4 +212,4 @@ pub record LookAt (file : Text) (m : List ℕ) (at : ℕ) (st : State) : Type 0 
   pub holds : Holds file at st
   pub less : at < length file
   pub short : length file ≤ 5000000
-  pub room : length m ≡ 30
+  pub room : length m ≡ markCount

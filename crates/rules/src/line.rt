@@ -9,7 +9,6 @@ use crate::fields::judge_ip;
 use crate::fields::judge_iv;
 use crate::fields::judge_plain;
 use crate::vaccine::judge_ii;
-use house::wide;
 use lines::IA;
 use lines::IE;
 use lines::IF;
@@ -18,13 +17,13 @@ use lines::II;
 use lines::IN;
 use lines::IP;
 use lines::IV;
+use lines_fields::count_marked;
 use lines_fields::judged;
 use rules_fields::Broken;
 ghost use mathlib.Core.Path.{_≡_};
 ghost use Prim.Native.Nat.{_+_, _^_, _≤_, _<_};
-ghost use lib.ListN.{getD};
 ghost use Rattle.house.specs.Text.{Text};
-ghost use Rattle.rules.specs.Fields.{Bookless, Judges, JudgesLine, relaxedIn, lastField, lastOf, nextField};
+ghost use Rattle.rules.specs.Fields.{Bookless, lineMost, Judges, JudgesLine, relaxedIn, lastField, lastOf, nextField};
 
 // Whether the II with these marks is a relaxed event.
 fn relaxed_of(file: &[u8], marks: &[u32]) -> bool
@@ -48,16 +47,6 @@ fn judge_other(file: &[u8], marks: &[u32], here: Here, by: By, f: usize) -> Brok
         IP => judge_ip(file, marks, here, by, f),
         _ => judge_plain(file, marks, here, f),
     }
-}
-
-// How many fields a line with these marks has.
-fn count_marked(marks: &[u32]) -> usize
-    ensures { λ r. ⌜ r ≡ getD (now (marks .entry)) 29 0 ⌝ }
-{
-    if marks.len() < 30 {
-        return 0;
-    }
-    wide(marks[29])
 }
 
 // The last field of a record of a kind that a rule is placed on.
@@ -110,7 +99,7 @@ fn judge_ii_line(
     count: usize,
 ) -> usize
     requires { ⌜ here .kind ≡ 4 ⌝ }
-    requires { ⌜ count + 84 < 2 ^ 64 ⌝ }
+    requires { ⌜ count + lineMost < 2 ^ 64 ⌝ }
     ensures { λ r. ⌜ JudgesLine (now (file .entry)) (now (marks .entry)) here (now (book .entry)) by count (now (area .entry)) r (now (area .exit)) ⌝ }
 {
     let last = last_of(II, count_marked(marks));
@@ -136,7 +125,7 @@ fn judge_ie_line(
     count: usize,
 ) -> usize
     requires { ⌜ here .kind ≡ 5 ⌝ }
-    requires { ⌜ count + 84 < 2 ^ 64 ⌝ }
+    requires { ⌜ count + lineMost < 2 ^ 64 ⌝ }
     ensures { λ r. ⌜ JudgesLine (now (file .entry)) (now (marks .entry)) here (now (book .entry)) by count (now (area .entry)) r (now (area .exit)) ⌝ }
 {
     let last = last_of(IE, count_marked(marks));
@@ -161,7 +150,7 @@ fn judge_in_line(
     count: usize,
 ) -> usize
     requires { ⌜ here .kind ≡ 6 ⌝ }
-    requires { ⌜ count + 84 < 2 ^ 64 ⌝ }
+    requires { ⌜ count + lineMost < 2 ^ 64 ⌝ }
     ensures { λ r. ⌜ JudgesLine (now (file .entry)) (now (marks .entry)) here (now (book .entry)) by count (now (area .entry)) r (now (area .exit)) ⌝ }
 {
     let last = last_of(IN, count_marked(marks));
@@ -186,7 +175,7 @@ fn judge_ia_line(
     count: usize,
 ) -> usize
     requires { ⌜ here .kind ≡ 7 ⌝ }
-    requires { ⌜ count + 84 < 2 ^ 64 ⌝ }
+    requires { ⌜ count + lineMost < 2 ^ 64 ⌝ }
     ensures { λ r. ⌜ JudgesLine (now (file .entry)) (now (marks .entry)) here (now (book .entry)) by count (now (area .entry)) r (now (area .exit)) ⌝ }
 {
     let last = last_of(IA, count_marked(marks));
@@ -210,7 +199,7 @@ fn judge_other_line(
     count: usize,
 ) -> usize
     requires { ⌜ Bookless (here .kind) ⌝ }
-    requires { ⌜ count + 84 < 2 ^ 64 ⌝ }
+    requires { ⌜ count + lineMost < 2 ^ 64 ⌝ }
     ensures { λ r. ⌜ ((book : Text) → JudgesLine (now (file .entry)) (now (marks .entry)) here book by count (now (area .entry)) r (now (area .exit))) ⌝ }
 {
     let last = last_of(here.kind, count_marked(marks));
@@ -234,7 +223,7 @@ pub(crate) fn judge_line(
     area: &mut [u8],
     count: usize,
 ) -> usize
-    requires { ⌜ count + 84 < 2 ^ 64 ⌝ }
+    requires { ⌜ count + lineMost < 2 ^ 64 ⌝ }
     ensures { λ r. ⌜ JudgesLine (now (file .entry)) (now (marks .entry)) here (now (book .entry)) by count (now (area .entry)) r (now (area .exit)) ⌝ }
 {
     let kind = here.kind;

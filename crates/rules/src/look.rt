@@ -18,7 +18,7 @@ ghost use mathlib.Core.Path.{_≡_};
 ghost use mathlib.Core.Bool.{true};
 ghost use Prim.Native.Nat.{_≤_, _<_};
 ghost use lib.ListN.{length, take};
-ghost use Rattle.lines_fields.specs.Marks.{marksAt};
+ghost use Rattle.lines_fields.specs.Marks.{markCount, marksAt};
 ghost use Rattle.lines.specs.Inside.{whole};
 ghost use Rattle.rules_definitions.specs.Forms.{text};
 ghost use Rattle.rules_walk.specs.Firsts.{fileMost};
@@ -161,7 +161,7 @@ fn see(
 fn read(file: &[u8], marks: &mut [u32], at: usize) -> Read
     requires { ⌜ at < length (now file) ⌝ }
     requires { ⌜ length (now file) ≤ fileMost ⌝ }
-    requires { ⌜ length (now marks) ≡ 30 ⌝ }
+    requires { ⌜ length (now marks) ≡ markCount ⌝ }
     ensures { λ r. ⌜ r .at ≡ at ⌝ }
     ensures { λ r. ⌜ ReadAs (now (file .entry)) (now (marks .exit)) r ⌝ }
 {

@@ -21,12 +21,18 @@ repeatsIn f (p ∷ ps) = repeatsAfter f (eventAt f p) ps
 
 -- A table of bytes: an entry for each sixteen bytes of the file, in which no two blocks start. It is 1 where one of them is noted.
 
+abbrev pub entryBytes : ℕ
+entryBytes = 16
+
+abbrev pub noted : ℕ
+noted = 1
+
 unfoldable pub isNoted : Text → ℕ → Bool
-isNoted table p = eqb (getD table (p / 16) 0) 1
+isNoted table p = eqb (getD table (p / entryBytes) 0) noted
 
 -- one place more is noted, if the table goes so far
 unfoldable pub noteAt : Text → ℕ → Text
-noteAt table p = set table (p / 16) 1
+noteAt table p = set table (p / entryBytes) noted
 
 unfoldable pub noteAll : List ℕ → Text → Text
 noteAll [] table = table

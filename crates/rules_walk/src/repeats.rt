@@ -7,13 +7,19 @@ ghost use Rattle.house.specs.Text.{same};
 ghost use Rattle.lines_places.specs.Events.{eventAt};
 ghost use Rattle.rules_walk.specs.Repeats.{repeatsIn, noteAt, noteAll, isNoted};
 
+// A table has an entry for so many bytes of the file.
+const ENTRY: usize = 16;
+
+// An entry where a position is noted.
+const NOTED: u8 = 1;
+
 // Whether a table notes a position.
 pub fn is_noted(table: &[u8], p: usize) -> bool
     ensures { λ r. ⌜ r ≡ isNoted (now (table .entry)) p ⌝ }
 {
-    let i = p / 16;
+    let i = p / ENTRY;
     if i < table.len() {
-        return table[i] == 1;
+        return table[i] == NOTED;
     }
     false
 }
@@ -22,9 +28,9 @@ pub fn is_noted(table: &[u8], p: usize) -> bool
 fn note(table: &mut [u8], p: usize)
     ensures { λ _. ⌜ now (table .exit) ≡ noteAt (now (table .entry)) p ⌝ }
 {
-    let at = p / 16;
+    let at = p / ENTRY;
     if at < table.len() {
-        table[at] = 1;
+        table[at] = NOTED;
     }
 }
 
