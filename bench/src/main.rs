@@ -24,6 +24,9 @@ const USAGE: &str =
 /// The product's check needs about 3.5 MB of stack.
 const STACK: usize = 16 << 20;
 
+/// The runs on the smallest file.
+const SMALL_RUNS: usize = 101;
+
 struct Plan {
     sizes: &'static [usize],
     runs: usize,
@@ -85,7 +88,9 @@ fn report(plan: &Plan) -> Result<String, String> {
         .filter(|family| family.name.contains(&plan.only))
         .map(|family| row(plan, family))
         .collect();
-    Ok(page(plan, &rows?))
+    let smallest = families::smallest();
+    let call = measure::measure_call(&smallest, SMALL_RUNS)?;
+    Ok(page(plan, &rows?, smallest.book.len(), &call))
 }
 
 fn row(plan: &Plan, family: Family) -> Result<Row, String> {
@@ -123,7 +128,7 @@ fn times(plan: &Plan, family: &Family, size: Size) -> Result<Times, String> {
     Ok(times)
 }
 
-fn page(plan: &Plan, rows: &[Row]) -> String {
+fn page(plan: &Plan, rows: &[Row], book: usize, call: &Times) -> String {
     format!(
         "# Speed\n\n\
         The check against the independent Rust implementation of `tests/differential`, both x86-64, in one process and one\n\
@@ -141,7 +146,9 @@ fn page(plan: &Plan, rows: &[Row]) -> String {
         {ratios}\n\
         ## At each size\n\n\
         Milliseconds, the product's / the independent implementation's.\n\n\
-        {sizes}",
+        {sizes}\n\
+        A call on a file of {bytes} bytes, a book of {book} and a ledger of none: {product_call:.2} µs; the independent implementation's\n\
+        {independent_call:.2}. Medians of {small_runs} runs of {calls} calls.\n",
         date = plan.date,
         product = plan.product,
         machine = machine(),
@@ -150,6 +157,12 @@ fn page(plan: &Plan, rows: &[Row]) -> String {
         families = table::families(rows),
         ratios = table::ratios(rows),
         sizes = table::sizes(rows),
+        bytes = call.bytes,
+        book = book,
+        product_call = call.product.as_secs_f64() * 1e6,
+        independent_call = call.independent.as_secs_f64() * 1e6,
+        small_runs = SMALL_RUNS,
+        calls = measure::CALLS,
     )
 }
 

@@ -4,10 +4,14 @@ use crate::clock;
 use crate::product;
 use differential::case::{Case, FILL};
 use differential::check::{self, Answer};
+use std::hint::black_box;
 use std::time::Duration;
 
 /// The runs of one input end when they have taken this long.
 const LONG_ENOUGH: Duration = Duration::from_secs(10);
+
+/// So many calls on a small file lie between two looks at the clock.
+pub const CALLS: u32 = 1000;
 
 type Check = fn(u32, &[u8], &[u8], &mut [u8], &mut [u8]) -> Answer;
 
@@ -51,6 +55,21 @@ impl Areas {
         );
         (answer, clock::now() - start)
     }
+
+    /// The time of one of many calls.
+    fn call(&mut self, case: &Case, check: Check) -> Duration {
+        let start = clock::now();
+        for _ in 0..CALLS {
+            black_box(check(
+                black_box(case.today),
+                &case.file,
+                &case.book,
+                &mut self.ledger,
+                &mut self.findings,
+            ));
+        }
+        (clock::now() - start) / CALLS
+    }
 }
 
 /// The medians of some runs, the two checks in turn; or where the two differ.
@@ -73,6 +92,23 @@ pub fn measure(case: &Case, runs: usize) -> Result<Times, String> {
             });
         }
     }
+}
+
+/// The times of one call on a small file that alters no area: the medians of some
+/// runs of many calls; or where the two checks differ.
+pub fn measure_call(case: &Case, runs: usize) -> Result<Times, String> {
+    let once = measure(case, 1)?;
+    let (mut ours, mut theirs) = (Areas::of(case), Areas::of(case));
+    let (mut product, mut independent) = (Vec::new(), Vec::new());
+    for _ in 0..runs {
+        product.push(ours.call(case, product::check));
+        independent.push(theirs.call(case, check::check));
+    }
+    Ok(Times {
+        product: median(product),
+        independent: median(independent),
+        ..once
+    })
 }
 
 fn median(mut times: Vec<Duration>) -> Duration {

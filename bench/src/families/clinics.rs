@@ -100,18 +100,28 @@ pub fn whole_travel_clinic(world: &mut World) -> Vec<u8> {
         let uli = world.uli();
         let who = who(&mut world.random, "SMITH-JONES");
         file.whole_patient(&uli, &who, world.birth());
-        for _ in 0..world.random.between(2, 5) {
-            let (vaccine, mut dose) = world.new_dose(&uli);
-            for lot in 1..=world.random.between(1, 3) {
-                dose.lot = format!("{}-{lot}", world.random.between(100, 999));
-                file.whole_immunization(&dose);
-                for antigen in &world.vaccine(vaccine).antigens {
-                    file.antigen(&dose.uli, antigen, "1");
-                }
+        travel_events(&mut file, world, &uli, Submission::whole_immunization);
+    }
+    file.finish()
+}
+
+/// Two to five events of a patient, of one to three lots each.
+fn travel_events(
+    file: &mut Submission,
+    world: &mut World,
+    uli: &str,
+    write: fn(&mut Submission, &Dose),
+) {
+    for _ in 0..world.random.between(2, 5) {
+        let (vaccine, mut dose) = world.new_dose(uli);
+        for lot in 1..=world.random.between(1, 3) {
+            dose.lot = format!("{}-{lot}", world.random.between(100, 999));
+            write(file, &dose);
+            for antigen in &world.vaccine(vaccine).antigens {
+                file.antigen(&dose.uli, antigen, "1");
             }
         }
     }
-    file.finish()
 }
 
 fn break_a_rule(random: &mut Random, dose: &mut Dose) {
@@ -134,13 +144,7 @@ pub fn travel_clinic(world: &mut World) -> Vec<u8> {
     while file.fits() {
         let uli = world.uli();
         file.patient(&uli, "SMITH-JONES", world.birth());
-        for _ in 0..world.random.between(2, 5) {
-            let (vaccine, mut dose) = world.new_dose(&uli);
-            for lot in 1..=world.random.between(1, 3) {
-                dose.lot = format!("{}-{lot}", world.random.between(100, 999));
-                immunization(&mut file, world, vaccine, &dose);
-            }
-        }
+        travel_events(&mut file, world, &uli, Submission::immunization);
     }
     file.finish()
 }
