@@ -41,8 +41,22 @@ module _ (known : Bool) where
 
 pub ruleset for-site = (needs, low-broken, code-empty, code-given, site-known, site-unknown)
 
--- rule9_site, rule9_method, rule10_partner_missing, rule12_antigen_again
+-- rule9_site, rule9_method, rule10_partner_missing
 pub ruleset for-asked = (needs, asked-no, asked-not, asked-yes, asked-more, asked-none)
+
+-- rule12_antigen_again: the second is asked first
+module _ (u v : Bool) (n : ℕ) (y : Bool) (f : y ≡ v) where
+  pub once : y ≡ false → 0 ≡ cond (u && v) n 0
+  once k = rw (← f, k, and-false u)
+
+  module _ (k : y ≡ true) (x : Bool) (e : x ≡ u) where
+    pub again-unsound : x ≡ false → 0 ≡ cond (u && v) n 0
+    again-unsound h = rw (← e, h)
+
+    pub again-sound : x ≡ true → n ≡ cond (u && v) n 0
+    again-sound h = rw (← e, h, ← f, k)
+
+pub ruleset for-again = (needs, once, again-unsound, again-sound)
 
 -- rule13_antigens_differ
 module _ (r : ℕ) (a b c d : Bool) where

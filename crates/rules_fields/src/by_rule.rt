@@ -84,12 +84,12 @@ pub(crate) fn rule10_partner_missing(relaxed: bool, t: &[u8], other: usize, u: &
     0
 }
 
-// Rule 12 at IE 4, of an antigen and the IE lines of its II before it.
+// Rule 12 at IE 4, of an antigen and the IE lines of its II before it. They are asked for first: most antigens are given once.
 pub(crate) fn rule12_antigen_again(t: &[u8], since: &[u8]) -> u8
     ensures { λ r. ⌜ r ≡ rule12By (now (t .entry)) (now (since .entry)) ⌝ }
 {
-    if rules_forms::sound_text(IE, false, 4, t) {
-        if rules_lists::rule12_any_antigen(t, since) {
+    if rules_lists::rule12_any_antigen(t, since) {
+        if rules_forms::sound_text(IE, false, 4, t) {
             return 12;
         }
     }
