@@ -1,28 +1,31 @@
 -- What each need of the functions over the lines of a part asks.
 -- Assumes nothing.
 use mathlib.Core.Path.{_≡_, refl, sym, ap, _∙_}
-use mathlib.Core.Bool.{Bool, true, false, _&&_, and-false}
-use mathlib.Core.List.{List}
-use Prim.Native.Nat.{ℕ, _-_, _≤_, _<_}
+use mathlib.Core.Bool.{Bool, true, false, cond, _&&_, and-false}
+use mathlib.Core.List.{List, []}
+use Prim.Native.Nat.{ℕ, _+_, _-_, _≤_, _<_}
 use native.Mathlib.Omega.{arith}
 use borrow.Author.Needs.{needs}
 use borrow.Author.Tests.{eq-eqb, ne-eqb}
 use lib.Dec.{eqb}
-use lib.ListN.{length, take, drop}
+use lib.ListN.{length, take, drop, getD, length-drop}
+use lib.Seq.{getD-drop, take-all}
 use Rattle.house.specs.Text.{Text, any, all, same, run, number, isDigit}
 use Rattle.house.proofs.Small.{both}
+use Rattle.house.proofs.Decisions.{same-true, is-same}
 use Rattle.lines_fields.specs.declared.LineAt.{LineAt}
-use Rattle.lines_fields.specs.Lines.{LineIs}
-use Rattle.lines_fields.specs.Marks.{judgedOf}
+use Rattle.lines_fields.specs.Lines.{LineIs, fieldsOf, fieldOf, fieldsLen}
+use Rattle.lines_fields.specs.Marks.{judgedText, judgedOf}
 use Rattle.lines.specs.Records.{Rec, recordOf, recOf, recs}
 use Rattle.lines_fields.proofs.LineLaws.{left-falls}
+use Rattle.lines_fields.proofs.FieldLaws.{fields-after, fields-le}
 use Rattle.lines.proofs.PartLaws.{recs-past, recs-on}
 use Rattle.rules_definitions.specs.Forms.{text, countForm, isCount, isRelaxed, isSound}
 use Rattle.rules_definitions.specs.Rules.{sameAntigen, doseOf, sameCount, allIn, countsSound, setsDiffer}
 use Rattle.rules_forms.specs.TextLeaves.{valueOf}
 use Rattle.rules_forms.proofs.TextLaws.{value-run}
 use Rattle.rules_forms.specs.FieldLeaves.{relaxedIf, soundIn}
-use Rattle.rules_lists.specs.Among.{antigenIs, lotIs, doseIn, countIs, countIn, soundCount}
+use Rattle.rules_lists.specs.Among.{antigenIs, lotIs, doseIn, countIs, countIn, fromAntigen, soundCount}
 use Rattle.rules_lists.proofs.StepNeeds.{step-same}
 use Rattle.rules_forms.proofs.FieldLaws.{text-is, kind-is, relaxed-is, lowest-filled, sound-in, sound-either}
 
@@ -150,11 +153,49 @@ module _ (l u : Text) (d : u ≡ judgedOf l 4) where
   unfolding countIs
   count-other t m x e h = rw (antigen-is, ← e, h)
 
+-- same_from_antigen
+module _ (l : Text) (a : ℕ) (d : a ≡ fieldsLen 3 l) where
+  pub antigen-within : a ≤ length l
+  antigen-within = rw d (fields-le 3 l)
+
+  from-antigen : take (length l - a) (drop a l) ≡ fromAntigen l
+  unfolding fromAntigen
+  from-antigen = take-all (length l - a) (drop a l) (omega (arith, length-drop a l)) ∙ ap (λ (n : ℕ). drop n l) d
+
+pub antigen-on : (l p : Text) (a b : ℕ) (x : Bool) → a ≡ fieldsLen 3 l → b ≡ fieldsLen 3 p
+    → x ≡ same (take (length l - a) (drop a l)) (take (length p - b) (drop b p)) → x ≡ same (fromAntigen l) (fromAntigen p)
+antigen-on l p a b x d e g = rw (← from-antigen l a d, ← from-antigen p b e) g
+
+pub ruleset for-same-from-antigen = (needs, antigen-within, antigen-on)
+
+-- counts_alike: a field from field 4 on is decided by what stands there
+module _ (l p : Text) (h : fromAntigen l ≡ fromAntigen p) where
+  later-field : (k : ℕ) → getD (fieldsOf l) (3 + k) [] ≡ getD (fieldsOf p) (3 + k) []
+  unfolding fromAntigen
+  later-field k =
+      sym (getD-drop 3 (fieldsOf l) k []) ∙ ap (λ (fs : List Text). getD fs k []) (sym (fields-after 3 l) ∙ ap fieldsOf h ∙ fields-after 3 p) ∙ getD-drop 3 (fieldsOf p) k []
+
+  antigen-alike : judgedOf l 4 ≡ judgedOf p 4
+  unfolding judgedOf fieldOf
+  antigen-alike = ap judgedText (later-field 0)
+
+  dose-alike : judgedOf l 5 ≡ judgedOf p 5
+  unfolding judgedOf fieldOf
+  dose-alike = ap judgedText (later-field 1)
+
+  same-count : true ≡ sameCount (recOf l) (recOf p)
+  unfolding sameCount sameAntigen doseOf
+  same-count =
+      rw (text-is l 4, text-is p 4, text-is l 5, text-is p 5, antigen-alike, dose-alike, is-same (judgedOf p 4) (judgedOf p 4) refl, eq-eqb (cond (isCount (judgedOf p 5)) (number (judgedOf p 5)) 0) (cond (isCount (judgedOf p 5)) (number (judgedOf p 5)) 0) refl)
+
+pub antigens-alike : (l p : Text) (x : Bool) → x ≡ same (fromAntigen l) (fromAntigen p) → x ≡ true → true ≡ sameCount (recOf l) (recOf p)
+antigens-alike l p x e h = same-count l p (same-true (fromAntigen l) (fromAntigen p) (sym e ∙ h))
+
 pub ruleset for-has-count = (needs, count-other, count-here)
 
 pub ruleset for-count-among = (needs, count-among)
 
-pub ruleset for-counts-alike = (needs, count-alike)
+pub ruleset for-counts-alike = (needs, antigens-alike, count-alike)
 
 -- rule13_sets_differ, count_sound
 module _ (a b : List Rec) (x : Bool) (e : x ≡ all (countIn b) a) where

@@ -4,7 +4,9 @@ use Prim.Native.Nat.{ℕ}
 use mathlib.Core.Bool.{Bool, true, false, cond, _&&_}
 use mathlib.Core.List.{List, [], _∷_}
 use lib.Dec.{eqb}
+use lib.ListN.{drop}
 use Rattle.house.specs.Text.{Text, any, same, number}
+use Rattle.lines_fields.specs.Lines.{fieldsLen}
 use Rattle.lines.specs.Records.{Rec, II, IE, isKind}
 use Rattle.rules_definitions.specs.Forms.{text, isSound, isCount}
 use Rattle.rules_definitions.specs.Rules.{doseOf, sameCount}
@@ -24,6 +26,10 @@ doseIn t = cond (isCount t) (number t) 0
 -- it gives this antigen this often
 unfoldable pub countIs : Text → ℕ → Rec → Bool
 countIs t n p = same t (text p 4) && eqb n (doseOf p)
+
+-- a line's text from field 4 on
+unfoldable pub fromAntigen : Text → Text
+fromAntigen t = drop (fieldsLen 3 t) t
 
 -- one of these gives its antigen as often
 unfoldable pub countIn : List Rec → Rec → Bool

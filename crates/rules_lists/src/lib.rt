@@ -1,18 +1,19 @@
 // What is asked of the lines of a part of the file: antigens, counts and lots given before.
 use lines::IE;
 use lines::II;
+use lines_fields::field_start;
 use lines_fields::judged_of;
 use rules_forms::is_count;
 use rules_forms::relaxed;
 use rules_forms::sound_text;
 use rules_forms::value;
 ghost use mathlib.Core.Path.{_≡_};
-ghost use Rattle.house.specs.Text.{any, all};
+ghost use Rattle.house.specs.Text.{any, all, same};
 ghost use Rattle.lines.specs.Records.{II, recOf, recs};
 ghost use Rattle.rules_definitions.specs.Forms.{isRelaxed};
 ghost use Rattle.rules_forms.specs.FieldLeaves.{soundIn};
 ghost use Rattle.rules_definitions.specs.Rules.{sameCount, countsSound, setsDiffer};
-ghost use Rattle.rules_lists.specs.Among.{antigenIs, lotIs, doseIn, countIs, countIn, inStep, soundCount};
+ghost use Rattle.rules_lists.specs.Among.{antigenIs, lotIs, doseIn, countIs, countIn, fromAntigen, inStep, soundCount};
 
 // Whether a line gives this antigen.
 fn has_antigen(line: &[u8], t: &[u8]) -> bool
@@ -147,10 +148,22 @@ fn all_counted(ps: &[u8], others: &[u8]) -> bool
     true
 }
 
-// Whether two lines give one antigen as often.
+// Whether two lines are the same from field 4 on.
+fn same_from_antigen(line: &[u8], other: &[u8]) -> bool
+    ensures { λ r. ⌜ r ≡ same (fromAntigen (now (line .entry))) (fromAntigen (now (other .entry))) ⌝ }
+{
+    let a = field_start(line, 3);
+    let b = field_start(other, 3);
+    house::same(&line[a..], &other[b..])
+}
+
+// Whether two lines give one antigen as often. Most that do are the same from there on.
 fn counts_alike(line: &[u8], other: &[u8]) -> bool
     ensures { λ r. ⌜ r ≡ sameCount (recOf (now (line .entry))) (recOf (now (other .entry))) ⌝ }
 {
+    if same_from_antigen(line, other) {
+        return true;
+    }
     let dose = dose_of(judged_of(line, 5));
     has_count(other, judged_of(line, 4), dose)
 }

@@ -12,4 +12,6 @@ counts-alike-spec =
     (λ c. search for-counts-alike)
     (λ c. search for-counts-alike)
     (λ c. search for-counts-alike)
+    (λ c. search for-counts-alike)
+    (λ c. search for-counts-alike)
     (λ c. search for-counts-alike))
