@@ -1,24 +1,26 @@
 -- What each need of the functions on fields that ask neither book nor ledger asks.
 -- Assumes nothing.
-use mathlib.Core.Path.{_≡_, refl, sym, _∙_}
-use mathlib.Core.Bool.{Bool, true, false, not, cond, _&&_}
+use mathlib.Core.Path.{_≡_, refl, sym, _∙_, subst}
+use mathlib.Core.Bool.{Bool, true, false, not, cond, _&&_, and-false}
 use mathlib.Core.List.{List, [], _∷_}
 use Prim.Native.Nat.{ℕ, _≤_, _<_}
 use native.Mathlib.Omega.{arith}
 use borrow.Author.Needs.{needs}
-use borrow.Author.Tests.{eq-eqb, ne-eqb, lt-ltb, le-ltb}
-use lib.Dec.{ltb}
+use borrow.Author.Tests.{eq-eqb, ne-eqb, eqb-true, eqb-false, lt-ltb, le-ltb, ltb-true, le-leb, lt-leb, leb-true}
+use lib.Dec.{eqb, ltb, leb}
+use lib.ListN.{length}
 use Rattle.dates.specs.declared.Date.{Date}
 use Rattle.dates.specs.declared.Dated.{Dated}
 use Rattle.dates.specs.declared.Dated.the-variants.{Day, NoDate}
-use Rattle.house.specs.Text.{Text, any, isEmpty, same, number}
+use Rattle.house.specs.Text.{Text, any, isEmpty, same, within, run, isDigit, number}
 use Rattle.dates.specs.Dates.{isDate, datedOf}
-use Rattle.house.proofs.Small.{clash}
+use Rattle.house.proofs.Small.{clash, both}
 use Rattle.dates.proofs.DateLaws.{dated-true, dated-false}
 use Rattle.lines.specs.Records.{Rec, IP, II, IN}
-use Rattle.rules_definitions.specs.Forms.{formOf, table, isUli, isJudged}
+use Rattle.rules_definitions.specs.Forms.{countForm, formOf, table, isNumber, isUli, isJudged}
 use Rattle.rules_forms.specs.TextLeaves.{valueOf}
 use Rattle.rules_forms.specs.FieldLeaves.{optionalIn, lowestIn}
+use Rattle.rules_forms.proofs.ClassLaws.{within-yes, within-low, within-high, run-all, run-parts, run-least}
 use Rattle.rules_lists.specs.Among.{lotIs}
 use Rattle.rules_plain.specs.PlainFields.{rule7By, rule6By, rule8TodayBy, rule8DayBy, rule8By, rule3By, rule14By}
 
@@ -54,12 +56,72 @@ module _ (n place : ℕ) where
   unfolding rule7By
   number-wrong e = rw (ne-eqb n place e)
 
+-- is_number
+module _ (k : ℕ) (t : Text) (n : ℕ) where
+  pub numbered-short : 3 ≤ k → k < 8 → length t ≤ 5 → ltb 0 n ≡ within 3 7 k && (leb (length t) 5 && ltb 0 n)
+  numbered-short a b h = rw (within-yes 3 7 k a (omega arith), le-leb (length t) 5 h)
+
+  pub numbered-long : 3 ≤ k → k < 8 → 5 < length t → false ≡ within 3 7 k && (leb (length t) 5 && ltb 0 n)
+  numbered-long a b h = rw (within-yes 3 7 k a (omega arith), lt-leb (length t) 5 h)
+
+  pub numbered-below : k < 3 → false ≡ within 3 7 k && (leb (length t) 5 && ltb 0 n)
+  numbered-below h = rw (within-low 3 7 k h)
+
+  pub numbered-above : 8 ≤ k → false ≡ within 3 7 k && (leb (length t) 5 && ltb 0 n)
+  numbered-above h = rw (within-high 3 7 k (omega arith))
+
+pub ruleset for-is-number = (needs, numbered-short, numbered-long, numbered-below, numbered-above)
+
+-- field2_number: a number of five digits at most is of the form of field 2
+number-form : (k : ℕ) (t : Text) → within 3 7 k ≡ true → formOf k 2 t ≡ isNumber t
+unfolding formOf table
+number-form k t h = go (eqb k 3) refl (eqb k 4) refl (eqb k 5) refl (eqb k 6) refl
+  where
+    low : 3 ≤ k
+    low = leb-true 3 k (both (leb 3 k) (leb k 7) h .0)
+
+    high : k ≤ 7
+    high = leb-true k 7 (both (leb 3 k) (leb k 7) h .1)
+
+    go : (a : Bool) → eqb k 3 ≡ a → (b : Bool) → eqb k 4 ≡ b → (c : Bool) → eqb k 5 ≡ c → (d : Bool) → eqb k 6 ≡ d → formOf k 2 t ≡ isNumber t
+    go true e b f c g d i = rw (eqb-true k 3 e)
+    go false e true f c g d i = rw (eqb-true k 4 f)
+    go false e false f true g d i = rw (eqb-true k 5 g)
+    go false e false f false g true i = rw (eqb-true k 6 i)
+    go false e false f false g false i =
+        let seven : k ≡ 7 = omega (arith, low, high, eqb-false k 3 e, eqb-false k 4 f, eqb-false k 5 g, eqb-false k 6 i) in rw seven
+
+value-number : (t : Text) → length t ≤ 5 → 0 < valueOf t → isNumber t ≡ true
+unfolding valueOf isNumber countForm
+value-number t h v = go (run 1 9 isDigit t) refl v
+  where
+    go : (x : Bool) → run 1 9 isDigit t ≡ x → 0 < cond x (number t) 0 → run 1 5 isDigit t && ltb 0 (number t) ≡ true
+    go true e w =
+        let r : true ≡ run 1 5 isDigit t = run-all t 1 5 isDigit true (run-least t 1 9 isDigit e) h (sym (run-parts t 1 9 isDigit e .1)) in
+        rw (← r, lt-ltb 0 (number t) w)
+    go false e w = absurd (omega arith)
+
+filled : (t : Text) → 0 < valueOf t → isEmpty t ≡ false
+unfolding valueOf run
+filled [] v = absurd (omega arith)
+filled (b ∷ t) v = refl
+
+module _ (k : ℕ) (t : Text) (n place q : ℕ) (e : n ≡ valueOf t) (x : Bool) (g : x ≡ within 3 7 k && (leb (length t) 5 && ltb 0 n)) (h : x ≡ true) where
+  pub numbered : q ≡ rule7By n place → q ≡ lowestIn k false 2 t (rule7By (valueOf t) place)
+  unfolding lowestIn
+  numbered f =
+      let p = both (within 3 7 k) (leb (length t) 5 && ltb 0 n) (sym g ∙ h) in
+      let r = both (leb (length t) 5) (ltb 0 n) (p .1) in
+      let v : 0 < valueOf t = subst (λ (m : ℕ). 0 < m) e (ltb-true 0 n (r .1)) in
+      let form : formOf k 2 t ≡ true = number-form k t (p .0) ∙ value-number t (leb-true (length t) 5 (r .0)) v in
+      rw (form, filled t v, and-false (isJudged k 2 && not (optionalIn k false 2)), ← e) f
+
 pub number-by : (t : Text) (n place q : ℕ) → n ≡ valueOf t → q ≡ rule7By n place → q ≡ rule7By (valueOf t) place
 number-by t n place q e h = rw (← e) h
 
 pub ruleset for-rule7-number = (needs, number-right, number-wrong)
 
-pub ruleset for-field2-number = (needs, rule-broken, rule-later, number-by)
+pub ruleset for-field2-number = (needs, numbered, rule-broken, rule-later, number-by)
 
 -- rule6_uli
 module _ (t u : Text) (y : Bool) (g : y ≡ same t u) where

@@ -1,4 +1,5 @@
 // The lowest rule that is broken at a field that asks neither book nor ledger, by its text; 0 for none.
+use lines::IA;
 use lines::II;
 use lines::IN;
 use lines::IP;
@@ -7,9 +8,12 @@ use rules_forms::is_uli;
 use rules_forms::rules1_and_2;
 use rules_forms::value;
 use rules_lists::rule14_any_lot;
-ghost use mathlib.Core.Bool.{false};
+ghost use mathlib.Core.Bool.{false, _&&_};
 ghost use mathlib.Core.Path.{_≡_};
-ghost use Rattle.lines.specs.Records.{IV, IP, II, IN, recs};
+ghost use lib.Dec.{ltb, leb};
+ghost use lib.ListN.{length};
+ghost use Rattle.house.specs.Text.{within};
+ghost use Rattle.lines.specs.Records.{IV, IP, II, IN, IA, recs};
 ghost use Rattle.rules_forms.specs.TextLeaves.{valueOf};
 ghost use Rattle.rules_forms.specs.FieldLeaves.{lowestIn};
 ghost use Rattle.rules_plain.specs.PlainFields.{rule7By, rule6By, rule8TodayBy, rule8DayBy, rule8By, rule3By, rule14By};
@@ -21,15 +25,37 @@ fn rule7_number(n: u32, place: usize) -> u8
     if n as usize == place { 0 } else { 7 }
 }
 
-// Field 2: rules 1, 2 and 7. The place is the line's among IP, II, IE, IN and IA lines, from 1.
+// A number has so many digits at most.
+const MOST_DIGITS: usize = 5;
+
+// Whether n, the value of a text, is a number that field 2 of a record of a kind may have.
+fn is_number(kind: u8, t: &[u8], n: u32) -> bool
+    ensures { λ r. ⌜ r ≡ within IP IA kind && (leb (length (now (t .entry))) 5 && ltb 0 n) ⌝ }
+{
+    match kind {
+        IP..=IA => {
+            if t.len() <= MOST_DIGITS {
+                return 0 < n;
+            }
+            false
+        }
+        _ => false,
+    }
+}
+
+// Field 2: rules 1, 2 and 7. The place is the line's among IP, II, IE, IN and IA lines, from 1. Its value is asked for once: most are numbers.
 pub fn field2_number(kind: u8, t: &[u8], place: usize) -> u8
     ensures { λ r. ⌜ r ≡ lowestIn kind false 2 (now (t .entry)) (rule7By (valueOf (now (t .entry))) place) ⌝ }
 {
+    let n = value(t);
+    if is_number(kind, t, n) {
+        return rule7_number(n, place);
+    }
     let r = rules1_and_2(kind, false, 2, t);
     if r != 0 {
         return r;
     }
-    rule7_number(value(t), place)
+    rule7_number(n, place)
 }
 
 // Rule 6, of a ULI and its IP's.

@@ -12,4 +12,7 @@ field2-number-spec =
     (λ c. search for-field2-number)
     (λ c. search for-field2-number)
     (λ c. search for-field2-number)
+    (λ c. search for-field2-number)
+    (λ c. search for-field2-number)
+    (λ c. search for-field2-number)
     (λ c. search for-field2-number))
