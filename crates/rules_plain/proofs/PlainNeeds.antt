@@ -56,26 +56,32 @@ module _ (n place : ℕ) where
   unfolding rule7By
   number-wrong e = rw (ne-eqb n place e)
 
--- is_number
-module _ (k : ℕ) (t : Text) (n : ℕ) where
-  pub numbered-short : 3 ≤ k → k < 8 → length t ≤ 5 → ltb 0 n ≡ within 3 7 k && (leb (length t) 5 && ltb 0 n)
-  numbered-short a b h = rw (within-yes 3 7 k a (omega arith), le-leb (length t) 5 h)
+-- is_numbered
+module _ (k : ℕ) where
+  pub numbered-kind : 3 ≤ k → k < 8 → true ≡ within 3 7 k
+  numbered-kind a b = rw (within-yes 3 7 k a (omega arith))
 
-  pub numbered-long : 3 ≤ k → k < 8 → 5 < length t → false ≡ within 3 7 k && (leb (length t) 5 && ltb 0 n)
-  numbered-long a b h = rw (within-yes 3 7 k a (omega arith), lt-leb (length t) 5 h)
-
-  pub numbered-below : k < 3 → false ≡ within 3 7 k && (leb (length t) 5 && ltb 0 n)
+  pub numbered-below : k < 3 → false ≡ within 3 7 k
   numbered-below h = rw (within-low 3 7 k h)
 
-  pub numbered-above : 8 ≤ k → false ≡ within 3 7 k && (leb (length t) 5 && ltb 0 n)
+  pub numbered-above : 8 ≤ k → false ≡ within 3 7 k
   numbered-above h = rw (within-high 3 7 k (omega arith))
 
-pub ruleset for-is-number = (needs, numbered-short, numbered-long, numbered-below, numbered-above)
+pub ruleset for-is-numbered = (needs, numbered-kind, numbered-below, numbered-above)
 
--- field2_number: a number of five digits at most is of the form of field 2
-number-form : (k : ℕ) (t : Text) → within 3 7 k ≡ true → formOf k 2 t ≡ isNumber t
-unfolding formOf table
-number-form k t h = go (eqb k 3) refl (eqb k 4) refl (eqb k 5) refl (eqb k 6) refl
+-- is_number
+module _ (t : Text) (n : ℕ) where
+  pub number-short : length t ≤ 5 → ltb 0 n ≡ leb (length t) 5 && ltb 0 n
+  number-short h = rw (le-leb (length t) 5 h)
+
+  pub number-long : 5 < length t → false ≡ leb (length t) 5 && ltb 0 n
+  number-long h = rw (lt-leb (length t) 5 h)
+
+pub ruleset for-is-number = (needs, number-short, number-long)
+
+-- field2_number, field3_uli: what holds of each kind that is numbered holds of them all
+numbered-each : (P : ℕ → Type 0) → P 3 → P 4 → P 5 → P 6 → P 7 → (k : ℕ) → within 3 7 k ≡ true → P k
+numbered-each P three four five six seven k h = go (eqb k 3) refl (eqb k 4) refl (eqb k 5) refl (eqb k 6) refl
   where
     low : 3 ≤ k
     low = leb-true 3 k (both (leb 3 k) (leb k 7) h .0)
@@ -83,13 +89,23 @@ number-form k t h = go (eqb k 3) refl (eqb k 4) refl (eqb k 5) refl (eqb k 6) re
     high : k ≤ 7
     high = leb-true k 7 (both (leb 3 k) (leb k 7) h .1)
 
-    go : (a : Bool) → eqb k 3 ≡ a → (b : Bool) → eqb k 4 ≡ b → (c : Bool) → eqb k 5 ≡ c → (d : Bool) → eqb k 6 ≡ d → formOf k 2 t ≡ isNumber t
-    go true e b f c g d i = rw (eqb-true k 3 e)
-    go false e true f c g d i = rw (eqb-true k 4 f)
-    go false e false f true g d i = rw (eqb-true k 5 g)
-    go false e false f false g true i = rw (eqb-true k 6 i)
+    go : (a : Bool) → eqb k 3 ≡ a → (b : Bool) → eqb k 4 ≡ b → (c : Bool) → eqb k 5 ≡ c → (d : Bool) → eqb k 6 ≡ d → P k
+    go true e b f c g d i = subst P (sym (eqb-true k 3 e)) three
+    go false e true f c g d i = subst P (sym (eqb-true k 4 f)) four
+    go false e false f true g d i = subst P (sym (eqb-true k 5 g)) five
+    go false e false f false g true i = subst P (sym (eqb-true k 6 i)) six
     go false e false f false g false i =
-        let seven : k ≡ 7 = omega (arith, low, high, eqb-false k 3 e, eqb-false k 4 f, eqb-false k 5 g, eqb-false k 6 i) in rw seven
+        let is-seven : 7 ≡ k = omega (arith, low, high, eqb-false k 3 e, eqb-false k 4 f, eqb-false k 5 g, eqb-false k 6 i) in subst P is-seven seven
+
+-- a text that is there, and of its field's form, breaks neither rule 1 nor rule 2
+later-alone : (k f : ℕ) (t : Text) (later : ℕ) → formOf k f t ≡ true → isEmpty t ≡ false → later ≡ lowestIn k false f t later
+unfolding lowestIn
+later-alone k f t later h e = rw (h, e, and-false (isJudged k f && not (optionalIn k false f)))
+
+-- field2_number: five digits at most that are above 0
+number-form : (t : Text) (k : ℕ) → within 3 7 k ≡ true → formOf k 2 t ≡ isNumber t
+unfolding formOf table
+number-form t = numbered-each (λ (k : ℕ). formOf k 2 t ≡ isNumber t) refl refl refl refl refl
 
 value-number : (t : Text) → length t ≤ 5 → 0 < valueOf t → isNumber t ≡ true
 unfolding valueOf isNumber countForm
@@ -101,20 +117,33 @@ value-number t h v = go (run 1 9 isDigit t) refl v
         rw (← r, lt-ltb 0 (number t) w)
     go false e w = absurd (omega arith)
 
-filled : (t : Text) → 0 < valueOf t → isEmpty t ≡ false
+value-filled : (t : Text) → 0 < valueOf t → isEmpty t ≡ false
 unfolding valueOf run
-filled [] v = absurd (omega arith)
-filled (b ∷ t) v = refl
+value-filled [] v = absurd (omega arith)
+value-filled (b ∷ t) v = refl
 
-module _ (k : ℕ) (t : Text) (n place q : ℕ) (e : n ≡ valueOf t) (x : Bool) (g : x ≡ within 3 7 k && (leb (length t) 5 && ltb 0 n)) (h : x ≡ true) where
+module _ (k : ℕ) (t : Text) (n place q : ℕ) (e : n ≡ valueOf t) (x y : Bool) (g : x ≡ within 3 7 k) (h : x ≡ true) (i : y ≡ leb (length t) 5 && ltb 0 n) (j : y ≡ true) where
   pub numbered : q ≡ rule7By n place → q ≡ lowestIn k false 2 t (rule7By (valueOf t) place)
-  unfolding lowestIn
   numbered f =
-      let p = both (within 3 7 k) (leb (length t) 5 && ltb 0 n) (sym g ∙ h) in
-      let r = both (leb (length t) 5) (ltb 0 n) (p .1) in
+      let r = both (leb (length t) 5) (ltb 0 n) (sym i ∙ j) in
       let v : 0 < valueOf t = subst (λ (m : ℕ). 0 < m) e (ltb-true 0 n (r .1)) in
-      let form : formOf k 2 t ≡ true = number-form k t (p .0) ∙ value-number t (leb-true (length t) 5 (r .0)) v in
-      rw (form, filled t v, and-false (isJudged k 2 && not (optionalIn k false 2)), ← e) f
+      f ∙ rw (← e) (later-alone k 2 t (rule7By n place) (number-form t k (sym g ∙ h) ∙ value-number t (leb-true (length t) 5 (r .0)) v) (value-filled t v))
+
+-- field3_uli
+uli-form : (t : Text) (k : ℕ) → within 3 7 k ≡ true → formOf k 3 t ≡ isUli t
+unfolding formOf table
+uli-form t = numbered-each (λ (k : ℕ). formOf k 3 t ≡ isUli t) refl refl refl refl refl
+
+uli-filled : (t : Text) → isUli t ≡ true → isEmpty t ≡ false
+unfolding isUli run
+uli-filled [] h = sym h
+uli-filled (b ∷ t) h = refl
+
+module _ (k : ℕ) (t : Text) (later q : ℕ) (x y : Bool) (g : x ≡ within 3 7 k) (h : x ≡ true) (i : y ≡ isUli t) (j : y ≡ true) where
+  pub uli-later : q ≡ later → q ≡ lowestIn k false 3 t later
+  uli-later f = f ∙ later-alone k 3 t later (uli-form t k (sym g ∙ h) ∙ sym i ∙ j) (uli-filled t (sym i ∙ j))
+
+pub ruleset for-field3-uli = (needs, uli-later, rule-broken, rule-later)
 
 pub number-by : (t : Text) (n place q : ℕ) → n ≡ valueOf t → q ≡ rule7By n place → q ≡ rule7By (valueOf t) place
 number-by t n place q e h = rw (← e) h

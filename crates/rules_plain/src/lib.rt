@@ -25,22 +25,27 @@ fn rule7_number(n: u32, place: usize) -> u8
     if n as usize == place { 0 } else { 7 }
 }
 
+// Whether records of a kind are numbered, and so have a number in field 2 and a ULI in field 3.
+fn is_numbered(kind: u8) -> bool
+    ensures { λ r. ⌜ r ≡ within IP IA kind ⌝ }
+{
+    match kind {
+        IP..=IA => true,
+        _ => false,
+    }
+}
+
 // A number has so many digits at most.
 const MOST_DIGITS: usize = 5;
 
-// Whether n, the value of a text, is a number that field 2 of a record of a kind may have.
-fn is_number(kind: u8, t: &[u8], n: u32) -> bool
-    ensures { λ r. ⌜ r ≡ within IP IA kind && (leb (length (now (t .entry))) 5 && ltb 0 n) ⌝ }
+// Whether n, the value of a text, is a number that field 2 may have.
+fn is_number(t: &[u8], n: u32) -> bool
+    ensures { λ r. ⌜ r ≡ leb (length (now (t .entry))) 5 && ltb 0 n ⌝ }
 {
-    match kind {
-        IP..=IA => {
-            if t.len() <= MOST_DIGITS {
-                return 0 < n;
-            }
-            false
-        }
-        _ => false,
+    if t.len() <= MOST_DIGITS {
+        return 0 < n;
     }
+    false
 }
 
 // Field 2: rules 1, 2 and 7. The place is the line's among IP, II, IE, IN and IA lines, from 1. Its value is asked for once: most are numbers.
@@ -48,8 +53,10 @@ pub fn field2_number(kind: u8, t: &[u8], place: usize) -> u8
     ensures { λ r. ⌜ r ≡ lowestIn kind false 2 (now (t .entry)) (rule7By (valueOf (now (t .entry))) place) ⌝ }
 {
     let n = value(t);
-    if is_number(kind, t, n) {
-        return rule7_number(n, place);
+    if is_numbered(kind) {
+        if is_number(t, n) {
+            return rule7_number(n, place);
+        }
     }
     let r = rules1_and_2(kind, false, 2, t);
     if r != 0 {
@@ -68,10 +75,15 @@ fn rule6_uli(t: &[u8], uli: &[u8]) -> u8
     if is_uli(uli) { 6 } else { 0 }
 }
 
-// Field 3 of a line below an IP with this ULI: rules 1, 2 and 6.
+// Field 3 of a line below an IP with this ULI: rules 1, 2 and 6. Most are ULIs.
 pub fn field3_uli(kind: u8, t: &[u8], uli: &[u8]) -> u8
     ensures { λ r. ⌜ r ≡ lowestIn kind false 3 (now (t .entry)) (rule6By (now (t .entry)) (now (uli .entry))) ⌝ }
 {
+    if is_numbered(kind) {
+        if is_uli(t) {
+            return rule6_uli(t, uli);
+        }
+    }
     let r = rules1_and_2(kind, false, 3, t);
     if r != 0 {
         return r;

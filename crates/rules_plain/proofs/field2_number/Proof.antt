@@ -15,4 +15,5 @@ field2-number-spec =
     (λ c. search for-field2-number)
     (λ c. search for-field2-number)
     (λ c. search for-field2-number)
+    (λ c. search for-field2-number)
     (λ c. search for-field2-number))

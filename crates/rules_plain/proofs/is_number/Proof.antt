@@ -9,6 +9,4 @@ is-number-spec =
     tie.close
     (tie.spec
     (λ c. search for-is-number)
-    (λ c. search for-is-number)
-    (λ c. search for-is-number)
     (λ c. search for-is-number))
