@@ -2,9 +2,7 @@
 -- Assumes nothing.
 use mathlib.Core.Path.{_≡_, ap, sym, _∙_}
 use mathlib.Core.Bool.{Bool}
-use mathlib.Core.Logic.{_⊎_, inl, inr}
-use Prim.Native.Nat.{ℕ, _≤_}
-use native.Mathlib.Omega.{arith}
+use Prim.Native.Nat.{ℕ}
 use lib.ListN.{length}
 use Rattle.house.specs.declared.Order.{Order}
 use Rattle.house.specs.declared.Key.{Key}
@@ -51,8 +49,5 @@ lesser-byte-one a b x y p q = cc
 pub greater-byte-one : (a b x y : ℕ) → x ≡ greaterOf a b → y ≡ greaterOf a b → x ≡ y
 greater-byte-one a b x y p q = cc
 
-pub lesser-one : (m n x y : ℕ) → x ≤ m → x ≤ n → (x ≡ m) ⊎ (x ≡ n) → y ≤ m → y ≤ n → (y ≡ m) ⊎ (y ≡ n) → x ≡ y
-lesser-one m n x y a b (inl p) c d (inl q) = p ∙ sym q
-lesser-one m n x y a b (inl p) c d (inr q) = omega arith
-lesser-one m n x y a b (inr p) c d (inl q) = omega arith
-lesser-one m n x y a b (inr p) c d (inr q) = p ∙ sym q
+pub lesser-one : (m n x y : ℕ) → x ≡ lesserOf m n → y ≡ lesserOf m n → x ≡ y
+lesser-one m n x y p q = cc

@@ -5,15 +5,17 @@ ghost use mathlib.Core.Logic.{_⊎_};
 ghost use mathlib.Core.List.{[]};
 ghost use Prim.Native.Nat.{_+_, _≤_};
 ghost use lib.ListN.{length, take, drop, getD};
+ghost use Rattle.house.specs.Numbers.{lesserOf};
 ghost use Rattle.house.specs.Text.{digits, pad, orderOf, below, same};
 
 // The lesser of two numbers.
 pub fn lesser(m: usize, n: usize) -> usize
+    ensures { λ r. ⌜ r ≡ lesserOf m n ⌝ }
     ensures { λ r. ⌜ r ≤ m ⌝ }
     ensures { λ r. ⌜ r ≤ n ⌝ }
     ensures { λ r. ⌜ (r ≡ m) ⊎ (r ≡ n) ⌝ }
 {
-    if m < n { m } else { n }
+    if n < m { n } else { m }
 }
 
 // How a stands to b; a text stands before those that go on from it.

@@ -8,5 +8,5 @@ pub lesser-spec : {M : Type 1} → statement M
 lesser-spec =
     tie.close
     (tie.spec
-    (λ c. search for-lesser)
-    (λ c. search for-lesser))
+    (λ c. (search for-lesser, (search for-lesser, (search for-lesser, search for-lesser))))
+    (λ c. (search for-lesser, (search for-lesser, (search for-lesser, search for-lesser)))))
