@@ -225,12 +225,13 @@ def book_ok(book):
     return all(x < y for x, y in zip(keys, keys[1:]))
 
 
-def standing(book, kind, a, b, day):
+def standing(book, kind, a, b, day, until=0):
+    """What the book says of a code on a day, where its end is not to be before another."""
     _, entries, _ = read_entries(book)
     for at, k, code, start, end in entries:
         first, second, _ = WIDTH[k]
         if k == kind and len(a) <= first and len(b) <= second and code == pad(first, a) + pad(second, b):
-            holds = (k != 1 or int(start) <= day) and day <= int(end)
+            holds = (k != 1 or int(start) <= day) and day <= int(end) and not int(end) < until
             return num(at) + (b"in-force " if holds else b"out-of-force ")
     return b"absent unknown "
 
@@ -240,7 +241,7 @@ BOOK_E = [entry(1, b"TESTV"), entry(2, b"TESTA"), entry(3, b"50"), entry(4, b"GS
 
 def book_cases():
     def case(book, asks=()):
-        asked = b"".join(part(bytes([k]) + struct.pack("<I", d)) + part(a) + part(b) for k, a, b, d in asks)
+        asked = b"".join(part(bytes([k]) + struct.pack("<II", d, until[0] if until else 0)) + part(a) + part(b) for k, a, b, d, *until in asks)
         said, _, _ = read_entries(book)
         if not book_ok(book):
             return part(book) + part(asked), said + b"malformed "
@@ -256,6 +257,9 @@ def book_cases():
     dated = entry(1, b"V", start=b"20220101", end=b"20220131") + entry(4, b"G", end=b"20220131")
     cases.append(case(dated, [(k, c, b"", d) for d in (20211231, 20220101, 20220131, 20220201) for k, c in ((1, b"V"), (4, b"G"))]))
     cases.append(case(entry(1, b"V", start=b"20220201", end=b"20220131"), [(1, b"V", b"", d) for d in (20220131, 20220201)]))
+    last = (20220130, 20220131, 20220201, 99999999)
+    pair = entry(8, b"V", b"A", end=b"20220131")
+    cases.append(case(dated + entry(5, b"O") + pair, [(k, c, b, d, u) for d in (20211231, 20220115, 20220131, 20220201) for u in last for k, c, b in ((1, b"V", b""), (4, b"G", b""), (5, b"O", b""), (8, b"V", b"A"))]))
     for i in range(len(BOOK_E)):
         swapped = BOOK_E[:]
         if i:

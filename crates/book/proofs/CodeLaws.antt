@@ -3,7 +3,7 @@
 use mathlib.Core.Path.{_≡_, refl, sym, ap, _∙_}
 use mathlib.Core.Bool.{Bool, true, false, _&&_}
 use mathlib.Core.List.{[], _∷_}
-use Prim.Native.Nat.{ℕ, zero, suc, _+_, _-_, _≤_, _<_}
+use Prim.Native.Nat.{ℕ, zero, suc, _+_, _-_, _≤_}
 use native.Mathlib.Nat.{add-sub-cancel-left}
 use native.Mathlib.Omega.{arith}
 use borrow.Author.Tests.{eqb-true}
@@ -11,13 +11,13 @@ use borrow.Author.Needs.{needs}
 use lib.Dec.{eqb}
 use lib.ListN.{length, getD, take, drop, length-drop}
 use lib.Seq.{drop-drop, take-add, length-take-le}
-use Rattle.house.specs.Text.{Text, all, number, isSame, orderOf, same, pad}
+use Rattle.house.specs.Text.{Text, all, number, isSame, orderOf, pad}
 use Rattle.house.specs.declared.Order.{Order}
 use Rattle.house.specs.declared.Order.the-variants.{Less, Same, More}
 use Rattle.house.proofs.Small.{both}
 use Rattle.house.proofs.OrderAlgebra.{orElse, order-append}
 use Rattle.house.proofs.OrderLaws.{length-pad}
-use Rattle.house.proofs.Suffix.{drop-here, eight}
+use Rattle.house.proofs.Suffix.{eight}
 use Rattle.house.proofs.DigitLaws.{together}
 use Rattle.book.specs.Inside.{isByte, codeOrder, Tells, Blank, Stands}
 use Rattle.book.proofs.FilledLaws.{filled-is, unfilled}

@@ -1,17 +1,17 @@
--- In force: what each need of `digit`, `eight_digits`, `end_number`, `in_force`, `standing` and `look_up` asks.
+-- In force: what each need of `digit`, `eight_digits`, `end_number`, `lasts`, `in_force`, `standing` and `look_up` asks.
 -- Assumes nothing.
 use mathlib.Core.Path.{_≡_, refl, sym, ap, _∙_}
-use mathlib.Core.Bool.{Bool, true, false, cond, _&&_}
-use mathlib.Core.List.{[], _∷_, _++_}
-use Prim.Native.Nat.{ℕ, zero, suc, _+_, _-_, _*_, _≤_, _<_}
+use mathlib.Core.Bool.{Bool, true, false, not, _&&_, and-false}
+use mathlib.Core.List.{_++_}
+use Prim.Native.Nat.{ℕ, _+_, _-_, _*_, _≤_, _<_}
 use native.Mathlib.Omega.{arith}
-use borrow.Author.Tests.{eq-eqb, ne-eqb, le-leb, lt-leb}
+use borrow.Author.Tests.{eq-eqb, ne-eqb, le-leb, lt-leb, lt-ltb, le-ltb}
 use borrow.Author.Needs.{needs}
-use lib.Dec.{eqb, leb}
+use lib.Dec.{ltb, leb}
 use lib.ListN.{length, getD, take, drop, length-drop}
 use lib.Seq.{drop-drop, take-take, take-add, drop-append-seam, length-take-le}
 use Rattle.house.specs.Text.{Text, all, number}
-use Rattle.house.proofs.Suffix.{drop-here, eight}
+use Rattle.house.proofs.Suffix.{eight}
 use Rattle.book.specs.declared.Layout.{Layout}
 use Rattle.book.specs.declared.Position.{Position}
 use Rattle.book.specs.declared.Sections.{Sections}
@@ -19,9 +19,9 @@ use Rattle.book.specs.declared.Found.{Found}
 use Rattle.book.specs.declared.Found.the-variants.{At, Absent}
 use Rattle.book.specs.declared.Standing.{Standing}
 use Rattle.book.specs.declared.Standing.the-variants.{Unknown, OutOfForce, InForce}
-use Rattle.book.specs.Book.{startWidth, codeWidth, bodyWidth, codeText, entryOf, datesOf, startOf, endOf, startedBy, inForce}
-use Rattle.book.specs.LookUp.{knownBy, inForceBy, standingBy}
-use Rattle.book.specs.Inside.{isByte, foundBy, saidBy, WidthsAre, LayoutIs, FoundIs}
+use Rattle.book.specs.Book.{startWidth, codeWidth, bodyWidth, codeText, entryOf, datesOf, startOf, endOf, startedBy, inForce, endedBefore}
+use Rattle.book.specs.LookUp.{foundIn, isSuchAt, knownBy, inForceBy, endedBy, inForceUntilBy, standingBy}
+use Rattle.book.specs.Inside.{isByte, foundBy, inForceUntil, saidBy, WidthsAre, LayoutIs, FoundIs}
 use Rattle.book.proofs.WidthLaws.{body-parts}
 use Rattle.book.proofs.CodeLaws.{eight-nines}
 use Rattle.book.proofs.SearchLaws.{find-kind, find-widths, find-by}
@@ -47,6 +47,20 @@ module _ (s : Text) (at : ℕ) (l : at + 8 ≤ length s) (r : Bool) (e : r ≡ a
   end-open h = eight-nines s at l (sym e ∙ h)
 
 pub ruleset for-end-number = (needs, end-open)
+
+-- lasts
+module _ (n e d u : ℕ) (x : e ≡ n) where
+  pub lasts-not : e < u → false ≡ leb d n && not (ltb n u)
+  lasts-not h = rw (← x, lt-ltb e u h, and-false (leb d e))
+
+  pub lasts-on : u ≤ e → leb d e ≡ leb d n && not (ltb n u)
+  lasts-on h = rw (← x, le-ltb e u h) (go (leb d e))
+    where
+      go : (b : Bool) → b ≡ b && true
+      go true = refl
+      go false = refl
+
+pub ruleset for-lasts = (needs, lasts-not, lasts-on)
 
 -- in_force
 module _ (s : Text) (k : ℕ) (w : Layout) (wide : WidthsAre k w) (at : ℕ) (l : at + w .entry ≤ length s) where
@@ -88,13 +102,16 @@ module _ (s : Text) (k : ℕ) (w : Layout) (wide : WidthsAre k w) (at : ℕ) (l 
   pub force-in : at + (w .entry - 8) + 8 ≤ length s
   force-in = omega (arith, force-wide)
 
-  module _ (d y : ℕ) (ey : y ≡ number (take 8 (drop (at + (w .entry - 8)) s))) where
-    ended : number (endOf (entryOf k (drop body s))) ≡ y
-    ended = ap number end-at ∙ sym ey
+  abbrev end-of : ℕ
+  end-of = number (take 8 (drop (at + (w .entry - 8)) s))
 
-    pub force-other : (k ≡ 1 → ⊥) → leb d y ≡ inForce d (entryOf k (drop (at + 1) s))
-    unfolding inForce startedBy entryOf
-    force-other n = sym (rw (ne-eqb k 1 n) (ap (leb d) ended))
+  ended : number (endOf (entryOf k (drop body s))) ≡ end-of
+  ended = ap number end-at
+
+  module _ (d u : ℕ) (r : Bool) (e : r ≡ leb d end-of && not (ltb end-of u)) where
+    pub force-other : (k ≡ 1 → ⊥) → r ≡ inForceUntil d u (entryOf k (drop (at + 1) s))
+    unfolding inForce endedBefore startedBy entryOf
+    force-other n = e ∙ sym (rw (ne-eqb k 1 n) (ap (λ (j : ℕ). leb d j && not (ltb j u)) ended))
 
   module _ (o : k ≡ 1) where
     start-wide : startWidth k ≡ 8
@@ -107,26 +124,29 @@ module _ (s : Text) (k : ℕ) (w : Layout) (wide : WidthsAre k w) (at : ℕ) (l 
     pub force-start : at + (w .entry - 8) - 8 + 8 ≤ length s
     force-start = omega (arith, force-before, force-in)
 
-    module _ (d x : ℕ) (ex : x ≡ number (take 8 (drop (at + (w .entry - 8) - 8) s))) where
+    module _ (d u x : ℕ) (ex : x ≡ number (take 8 (drop (at + (w .entry - 8) - 8) s))) where
       started : number (startOf (entryOf k (drop body s))) ≡ x
       started =
           let e : body + codeWidth k ≡ at + (w .entry - 8) - 8 = omega (arith, body-parts k, wide .entry-is, start-wide) in
           ap number (start-at ∙ ap (λ (j : ℕ). take j rests) start-wide ∙ ap (λ (j : ℕ). take 8 (drop j s)) e) ∙ sym ex
 
-      pub force-not-yet : d < x → false ≡ inForce d (entryOf k (drop (at + 1) s))
-      unfolding inForce startedBy entryOf
-      force-not-yet h = sym (rw (eq-eqb k 1 o) (ap (λ (j : ℕ). leb j d && leb d (number (endOf (entryOf k (drop body s))))) started ∙ rw (lt-leb x d h)))
+      abbrev begun : Bool → Bool
+      begun b = b && leb d (number (endOf (entryOf k (drop body s)))) && not (ltb (number (endOf (entryOf k (drop body s)))) u)
 
-      pub force-vaccine : (y : ℕ) → x ≤ d → y ≡ number (take 8 (drop (at + (w .entry - 8)) s)) → leb d y ≡ inForce d (entryOf k (drop (at + 1) s))
-      unfolding inForce startedBy entryOf
-      force-vaccine y h f =
-          sym (rw (eq-eqb k 1 o) (ap (λ (j : ℕ). leb j d && leb d (number (endOf (entryOf k (drop body s))))) started ∙ rw (le-leb x d h) (ap (leb d) (ended d y f))))
+      pub force-not-yet : d < x → false ≡ inForceUntil d u (entryOf k (drop (at + 1) s))
+      unfolding inForce endedBefore startedBy entryOf
+      force-not-yet h = sym (rw (eq-eqb k 1 o) (ap (λ (j : ℕ). begun (leb j d)) started ∙ ap begun (lt-leb x d h)))
+
+      pub force-vaccine : (r : Bool) → x ≤ d → r ≡ leb d end-of && not (ltb end-of u) → r ≡ inForceUntil d u (entryOf k (drop (at + 1) s))
+      unfolding inForce endedBefore startedBy entryOf
+      force-vaccine r h f =
+          f ∙ sym (rw (eq-eqb k 1 o) (ap (λ (j : ℕ). begun (leb j d)) started ∙ ap begun (le-leb x d h) ∙ ap (λ (j : ℕ). leb d j && not (ltb j u)) ended))
 
 pub ruleset for-in-force = (needs, force-wide, force-room, force-in, force-other, force-before, force-start, force-not-yet, force-vaccine)
 
 -- standing
-module _ (s : Text) (k : ℕ) (w : Layout) (end : ℕ) (a b : Text) (d : ℕ) (f : Found) (e : FoundIs s k (foundBy s k w end a b) f) where
-  pub said-no : f ≡ Absent → Unknown ≡ saidBy s k w end a b d
+module _ (s : Text) (k : ℕ) (w : Layout) (end : ℕ) (a b : Text) (d u : ℕ) (f : Found) (e : FoundIs s k (foundBy s k w end a b) f) where
+  pub said-no : f ≡ Absent → Unknown ≡ saidBy s k w end a b d u
   unfolding saidBy
   said-no h = rw (← e .exact, h)
 
@@ -139,25 +159,29 @@ module _ (s : Text) (k : ℕ) (w : Layout) (end : ℕ) (a b : Text) (d : ℕ) (f
     by : foundBy s k w end a b ≡ At p
     by = sym (e .exact) ∙ h
 
-    module _ (r : Bool) (i : r ≡ inForce d (entryOf k (drop (p .at + 1) s))) where
-      pub said-in : r ≡ true → InForce ≡ saidBy s k w end a b d
+    module _ (r : Bool) (i : r ≡ inForceUntil d u (entryOf k (drop (p .at + 1) s))) where
+      pub said-in : r ≡ true → InForce ≡ saidBy s k w end a b d u
       unfolding saidBy
       said-in z = sym (rw by (rw (← i, z)))
 
-      pub said-out : r ≡ false → OutOfForce ≡ saidBy s k w end a b d
+      pub said-out : r ≡ false → OutOfForce ≡ saidBy s k w end a b d u
       unfolding saidBy
       said-out z = sym (rw by (rw (← i, z)))
 
 pub ruleset for-standing = (needs, said-no, said-lies, said-in, said-out)
 
--- look_up
-module _ (s : Text) (q : Sections) (k : ℕ) (a b : Text) (d : ℕ) where
-  pub look-no : 8 < k → Unknown ≡ standingBy s q k (codeText k a b) d
+-- look_up: to ask both of what was found is to ask each
+both-such : (s : Text) (d u k : ℕ) (f : Found) → isSuchAt s (inForceUntil d u) k f ≡ isSuchAt s (inForce d) k f && not (isSuchAt s (endedBefore u) k f)
+both-such s d u k Absent = refl
+both-such s d u k (At p) = refl
+
+module _ (s : Text) (q : Sections) (k : ℕ) (a b : Text) (d u : ℕ) where
+  pub look-no : 8 < k → Unknown ≡ standingBy s q k (codeText k a b) d u
   unfolding standingBy knownBy
   look-no h = rw (← find-kind s q k a b h)
 
-  pub look-is : (w : Layout) (r : Standing) → LayoutIs q k w → k ≤ 8 → r ≡ saidBy s k w (q .end) a b d → r ≡ standingBy s q k (codeText k a b) d
-  unfolding standingBy knownBy inForceBy saidBy
-  look-is w r e l h = h ∙ rw (find-by s q k a b w e l)
+  pub look-is : (w : Layout) (r : Standing) → LayoutIs q k w → k ≤ 8 → r ≡ saidBy s k w (q .end) a b d u → r ≡ standingBy s q k (codeText k a b) d u
+  unfolding standingBy knownBy inForceUntilBy inForceBy endedBy saidBy
+  look-is w r e l h = h ∙ rw (find-by s q k a b w e l, both-such s d u k (foundIn s q k (codeText k a b)))
 
 pub ruleset for-look-up = (needs, find-widths, look-no, look-is)

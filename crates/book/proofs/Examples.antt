@@ -10,8 +10,8 @@ use Rattle.dates.specs.Dates.{isLeap, daysIn, isDay, isDate, isEnd}
 use Rattle.house.specs.Search.{binarySearch}
 use Rattle.book.specs.declared.Standing.{Standing}
 use Rattle.book.specs.declared.Standing.the-variants.{Unknown, OutOfForce, InForce}
-use Rattle.book.specs.Book.{firstWidth, secondWidth, codeWidth, startWidth, bodyWidth, entryOf, entriesAfter, entries, codeOf, datesOf, startOf, endOf, firstForm, secondForm, codeForm, startForm, datesForm, bodyForm, entryForm, above, bookOk, startedBy, inForce, codeText, isEntry, listed, listedOn, standingOf, bytesBefore, sectionsOf}
-use Rattle.book.specs.LookUp.{sectionStart, countFrom, countIn, placeOf, codeAt, orderAt, foundAt, hashOf, codeHash, entryHashed, namedIn, searchedIn, soughtIn, foundIn, knownBy, inForceBy, standingBy}
+use Rattle.book.specs.Book.{firstWidth, secondWidth, codeWidth, startWidth, bodyWidth, entryOf, entriesAfter, entries, codeOf, datesOf, startOf, endOf, firstForm, secondForm, codeForm, startForm, datesForm, bodyForm, entryForm, above, bookOk, startedBy, inForce, endedBefore, codeText, isEntry, listed, listedSuch, listedOn, listedEnded, standingOf, bytesBefore, sectionsOf}
+use Rattle.book.specs.LookUp.{sectionStart, countFrom, countIn, placeOf, codeAt, orderAt, foundAt, hashOf, codeHash, entryHashed, namedIn, searchedIn, soughtIn, foundIn, knownBy, inForceBy, endedBy, inForceUntilBy, standingBy}
 
 -- the entries of book E
 abbrev testv : Text
@@ -47,12 +47,19 @@ numbered Unknown = 1
 numbered OutOfForce = 2
 numbered InForce = 3
 
--- the entries say it, and so does a look-up
+-- the entries say it, and so does a look-up: on day d, where the end is not to be before day u
+abbrev saysUntil : Text → ℕ → Text → Text → ℕ → ℕ → Standing → Bool
+saysUntil s k a b d u t = eqb (numbered (standingOf (entries s) k (codeText k a b) d u)) (numbered t)
+
+abbrev findsUntil : Text → ℕ → Text → Text → ℕ → ℕ → Standing → Bool
+findsUntil s k a b d u t = eqb (numbered (standingBy s (sectionsOf s) k (codeText k a b) d u)) (numbered t)
+
+-- on a day alone
 abbrev says : Text → ℕ → Text → Text → ℕ → Standing → Bool
-says s k a b d t = eqb (numbered (standingOf (entries s) k (codeText k a b) d)) (numbered t)
+says s k a b d t = saysUntil s k a b d 0 t
 
 abbrev finds : Text → ℕ → Text → Text → ℕ → Standing → Bool
-finds s k a b d t = eqb (numbered (standingBy s (sectionsOf s) k (codeText k a b) d)) (numbered t)
+finds s k a b d t = findsUntil s k a b d 0 t
 
 abbrev wellFormed : List Text
 wellFormed = [] ∷ testv ∷ bookE ∷ ending ∷ (testv ++ (1 ∷ bytes "TESTVB              2000010199999999")) ∷ []
@@ -102,8 +109,13 @@ cases =
     ∷ finds ending 1 (bytes "ENDS") [] 20220930 InForce
     ∷ finds ending 1 (bytes "ENDS") [] 20221001 OutOfForce
     ∷ finds ending 1 (bytes "NEVER") [] 20100101 OutOfForce
+    ∷ findsUntil ending 1 (bytes "ENDS") [] 20220901 20220930 InForce
+    ∷ findsUntil ending 1 (bytes "ENDS") [] 20220901 20221001 OutOfForce
+    ∷ saysUntil ending 1 (bytes "ENDS") [] 20220901 20220930 InForce
+    ∷ saysUntil ending 1 (bytes "ENDS") [] 20220901 20221001 OutOfForce
+    ∷ findsUntil bookE 1 (bytes "TESTV") [] 20220901 20991231 InForce
     ∷ []
 
 pub book-e : all (λ (b : Bool). b) cases ≡ true
-unfolding orderOf below same isDigit isGraphic digits number graphicLen isPadded isLeap daysIn isDay isDate isEnd binarySearch firstWidth secondWidth codeWidth startWidth bodyWidth entryOf entriesAfter entries codeOf datesOf startOf endOf firstForm secondForm codeForm startForm datesForm bodyForm entryForm above bookOk startedBy inForce codeText isEntry listed listedOn standingOf bytesBefore sectionsOf sectionStart countFrom countIn placeOf codeAt orderAt foundAt hashOf codeHash entryHashed namedIn searchedIn soughtIn foundIn knownBy inForceBy standingBy
+unfolding orderOf below same isDigit isGraphic digits number graphicLen isPadded isLeap daysIn isDay isDate isEnd binarySearch firstWidth secondWidth codeWidth startWidth bodyWidth entryOf entriesAfter entries codeOf datesOf startOf endOf firstForm secondForm codeForm startForm datesForm bodyForm entryForm above bookOk startedBy inForce endedBefore codeText isEntry listed listedSuch listedOn listedEnded standingOf bytesBefore sectionsOf sectionStart countFrom countIn placeOf codeAt orderAt foundAt hashOf codeHash entryHashed namedIn searchedIn soughtIn foundIn knownBy inForceBy endedBy inForceUntilBy standingBy
 book-e = refl

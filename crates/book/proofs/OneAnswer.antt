@@ -22,8 +22,8 @@ valid-one s x y e f = cc
 pub find-one : (s : Text) (q : Sections) (k : ℕ) (a b : Text) (x y : Found) → x ≡ foundIn s q k (codeText k a b) → y ≡ foundIn s q k (codeText k a b) → x ≡ y
 find-one s q k a b x y e f = cc
 
-pub look-up-one : (s : Text) (q : Sections) (k : ℕ) (a b : Text) (d : ℕ) (x y : Standing) → x ≡ standingBy s q k (codeText k a b) d → y ≡ standingBy s q k (codeText k a b) d → x ≡ y
-look-up-one s q k a b d x y e f = cc
+pub look-up-one : (s : Text) (q : Sections) (k : ℕ) (a b : Text) (d u : ℕ) (x y : Standing) → x ≡ standingBy s q k (codeText k a b) d u → y ≡ standingBy s q k (codeText k a b) d u → x ≡ y
+look-up-one s q k a b d u x y e f = cc
 
 pub hash-book-one : (s : Text) (q : Sections) (room x y : Text) → x ≡ withHashTable s q room → y ≡ withHashTable s q room → x ≡ y
 hash-book-one s q room x y e f = cc

@@ -1,8 +1,8 @@
 -- What each need of the look-up asks: `probe`, `named`, `binary_search`, `sought`, `in_section`, `found` and `find`.
 -- Assumes nothing.
-use mathlib.Core.Path.{_≡_, refl, sym, ap, _∙_}
-use mathlib.Core.Bool.{Bool, true, false, cond, _&&_}
-use Prim.Native.Nat.{ℕ, zero, suc, _+_, _-_, _*_, _/_, _≤_, _<_}
+use mathlib.Core.Path.{_≡_, sym, ap, _∙_}
+use mathlib.Core.Bool.{Bool, true, false, _&&_}
+use Prim.Native.Nat.{ℕ, suc, _+_, _-_, _*_, _/_, _≤_, _<_}
 use native.Mathlib.Nat.{suc-mul, mul-le-mul, mul-le-mul-right, le-div-iff-mul-le, div-lt-iff-lt-mul}
 use native.Mathlib.Omega.{arith}
 use borrow.Author.Tests.{le-leb, lt-leb, le-ltb, lt-ltb}
@@ -20,8 +20,8 @@ use Rattle.book.specs.declared.Position.{Position}
 use Rattle.book.specs.declared.Found.{Found}
 use Rattle.book.specs.declared.Found.the-variants.{At, Absent}
 use Rattle.book.specs.Book.{firstWidth, secondWidth, codeWidth, bodyWidth, codeText}
-use Rattle.book.specs.LookUp.{sectionStart, countFrom, countIn, placeOf, codeAt, orderAt, foundAt, entryHashed, namedIn, searchedIn, soughtIn, foundIn}
-use Rattle.book.specs.Inside.{fits, codePadded, codeOrder, foundBy, WidthsAre, LayoutIs, Laid, Lies, FoundIs, NamedIs, SearchedIs, SoughtIs, HashedIs}
+use Rattle.book.specs.LookUp.{countFrom, countIn, placeOf, codeAt, orderAt, foundAt, entryHashed, namedIn, searchedIn, soughtIn, foundIn}
+use Rattle.book.specs.Inside.{fits, codePadded, codeOrder, foundBy, WidthsAre, LayoutIs, Laid, FoundIs, NamedIs, SearchedIs, SoughtIs, HashedIs}
 use Rattle.book.proofs.FitLaws.{fit-says, code-text, fits-is}
 use Rattle.book.proofs.LayoutLaws.{count-is, count-in, count-back, count-out}
 

@@ -3,7 +3,7 @@
 use mathlib.Core.Path.{_≡_, refl, sym, ap, _∙_}
 use mathlib.Core.Logic.{_⊎_, inl, inr}
 use mathlib.Core.Bool.{Bool, true, false, cond, _&&_}
-use mathlib.Core.List.{List, []}
+use mathlib.Core.List.{[]}
 use Prim.Native.Nat.{ℕ, _+_, _*_, _<_}
 use native.Mathlib.Omega.{arith}
 use borrow.Author.Tests.{eq-eqb, ne-eqb, ltb-true}
@@ -21,8 +21,8 @@ use Rattle.house.proofs.SearchLaws.{Decides, hit, miss, halve-decides}
 use Rattle.book.specs.declared.Sections.{Sections}
 use Rattle.book.specs.declared.Found.{Found}
 use Rattle.book.specs.declared.Found.the-variants.{Absent}
-use Rattle.book.specs.Book.{codeWidth, bodyWidth, Entry, entryOf, entries, codeOf, isEntry, listed, listedOn, inForce}
-use Rattle.book.specs.LookUp.{sectionStart, countIn, placeOf, codeAt, orderAt, foundAt, namedIn, searchedIn, elseFound, soughtIn, isThere, isInForceAt}
+use Rattle.book.specs.Book.{codeWidth, bodyWidth, Entry, entryOf, entries, codeOf, isEntry, listed, listedSuch}
+use Rattle.book.specs.LookUp.{sectionStart, countIn, placeOf, codeAt, orderAt, foundAt, namedIn, searchedIn, elseFound, soughtIn, isThere, isSuchAt}
 use Rattle.book.proofs.EntryLaws.{code-is}
 use Rattle.book.proofs.KindLaws.{rowAt, row-asc, any-miss, any-only, Only}
 use Rattle.book.proofs.SectionLaws.{Section}
@@ -79,20 +79,20 @@ module _ (s book : Text) (q : Sections) (k n : ℕ) (sec : Section s book q k n)
       go Same e = inl (order-is i ∙ ap (orderOf (codeOf (row i))) (sym (same-eq (codeOf (row j)) x e)) ∙ up)
       go More e = inr (order-is j ∙ e)
 
-  only : (d : ℕ) → Only k (λ (e : Entry). isEntry k x e && inForce d e)
-  only d e m = rw (not-kind k x e m)
+  only : (p : Entry → Bool) → Only k (λ (e : Entry). isEntry k x e && p e)
+  only p e m = rw (not-kind k x e m)
 
   -- a look-up finds f: what that says is what the entries say
   record Says (f : Found) : Type 0 where
     known : isThere f ≡ listed (entries book) k x
-    on : (d : ℕ) → isInForceAt s d k f ≡ listedOn (entries book) d k x
+    such : (p : Entry → Bool) → isSuchAt s p k f ≡ listedSuch (entries book) p k x
 
   misses : ((i : ℕ) → i < n → orderAt s k from x i ≡ Same → ⊥) → Says Absent
-  unfolding listed listedOn
+  unfolding listed listedSuch
   misses f =
       record {
         known = sym (sec .asks (isEntry k x) (not-kind k x) ∙ any-miss k (isEntry k x) n (drop from s) other);
-        on = λ d. sym (sec .asks (λ (e : Entry). isEntry k x e && inForce d e) (only d) ∙ any-miss k (λ (e : Entry). isEntry k x e && inForce d e) n (drop from s) (λ i l. rw (other i l)));
+        such = λ p. sym (sec .asks (λ (e : Entry). isEntry k x e && p e) (only p) ∙ any-miss k (λ (e : Entry). isEntry k x e && p e) n (drop from s) (λ i l. rw (other i l)));
       }
     where
       other : (i : ℕ) → i < n → isEntry k x (row i) ≡ false
@@ -122,21 +122,21 @@ module _ (s book : Text) (q : Sections) (k n : ℕ) (sec : Section s book q k n)
     unfolding listed
     hits-known = sec .asks (isEntry k x) (not-kind k x) ∙ any-only k (isEntry k x) n (drop from s) m l others ∙ is-entry k x (row m) kind code
 
-    hits-on : (d : ℕ) → listedOn (entries book) d k x ≡ inForce d (row m)
-    unfolding listedOn
-    hits-on d =
-        sec .asks (λ (e : Entry). isEntry k x e && inForce d e) (only d)
-        ∙ any-only k (λ (e : Entry). isEntry k x e && inForce d e) n (drop from s) m l (λ i j f. rw (others i j f))
+    hits-such : (p : Entry → Bool) → listedSuch (entries book) p k x ≡ p (row m)
+    unfolding listedSuch
+    hits-such p =
+        sec .asks (λ (e : Entry). isEntry k x e && p e) (only p)
+        ∙ any-only k (λ (e : Entry). isEntry k x e && p e) n (drop from s) m l (λ i j f. rw (others i j f))
         ∙ rw (is-entry k x (row m) kind code)
 
     -- the entry that is found is the row
-    force : (d : ℕ) → inForce d (entryOf k (drop (placeOf k from m + 1) s)) ≡ inForce d (row m)
+    of-row : (p : Entry → Bool) → p (entryOf k (drop (placeOf k from m + 1) s)) ≡ p (row m)
     unfolding rowAt
-    force d = ap (λ (t : Text). inForce d (entryOf k t)) (row-bytes m)
+    of-row p = ap (λ (t : Text). p (entryOf k t)) (row-bytes m)
 
     hits : Says (foundAt k from m)
     unfolding foundAt
-    hits = record { known = sym hits-known; on = λ d. force d ∙ sym (hits-on d) }
+    hits = record { known = sym hits-known; such = λ p. of-row p ∙ sym (hits-such p) }
 
   finds : Says (searchedIn s k from n x)
   unfolding searchedIn
@@ -160,5 +160,5 @@ module _ (s book : Text) (q : Sections) (k n : ℕ) (sec : Section s book q k n)
   pub sought-known : (i : ℕ) → isThere (soughtIn s k from (countIn s q k) x i) ≡ listed (entries book) k x
   sought-known i = rw (sec .count) (says i .known)
 
-  pub sought-on : (i d : ℕ) → isInForceAt s d k (soughtIn s k from (countIn s q k) x i) ≡ listedOn (entries book) d k x
-  sought-on i d = rw (sec .count) (says i .on d)
+  pub sought-such : (i : ℕ) (p : Entry → Bool) → isSuchAt s p k (soughtIn s k from (countIn s q k) x i) ≡ listedSuch (entries book) p k x
+  sought-such i p = rw (sec .count) (says i .such p)

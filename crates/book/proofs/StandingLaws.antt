@@ -3,14 +3,14 @@
 -- Assumes nothing.
 use mathlib.Core.Path.{_≡_, refl, sym, ap, _∙_, subst}
 use mathlib.Core.Bool.{Bool, true, false, cond, _&&_}
-use mathlib.Core.List.{[], _∷_}
-use Prim.Native.Nat.{ℕ}
+use mathlib.Core.List.{[]}
+use Prim.Native.Nat.{ℕ, _+_}
 use native.Mathlib.Omega.{arith}
-use borrow.Author.Tests.{leb-true, leb-false, eqb-true, eqb-false}
+use borrow.Author.Tests.{leb-true, leb-false, eqb-true, eqb-false, le-ltb}
 use lib.Dec.{eqb, leb}
-use lib.ListN.{length, take}
+use lib.ListN.{length, take, drop}
 use lib.Seq.{length-take-le}
-use Rattle.house.specs.Text.{Text, same}
+use Rattle.house.specs.Text.{Text, same, number}
 use Rattle.house.proofs.Decisions.{not-same}
 use Rattle.book.specs.declared.Position.{Position}
 use Rattle.book.specs.declared.Sections.{Sections}
@@ -18,13 +18,13 @@ use Rattle.book.specs.declared.Found.{Found}
 use Rattle.book.specs.declared.Found.the-variants.{At, Absent}
 use Rattle.book.specs.declared.Standing.{Standing}
 use Rattle.book.specs.declared.Standing.the-variants.{Unknown, OutOfForce, InForce}
-use Rattle.book.specs.Book.{codeWidth, Entry, entries, codeOf, entryForm, bookOf, Sound, isEntry, listed, listedOn, inForce}
-use Rattle.book.specs.LookUp.{sectionStart, countIn, entryHashed, soughtIn, foundIn, isThere, isInForceAt, knownBy, inForceBy, standingBy}
+use Rattle.book.specs.Book.{codeWidth, Entry, entryOf, entries, codeOf, endOf, entryForm, bookOf, Sound, isEntry, listed, listedSuch, listedOn, listedEnded, standingOf, inForce, endedBefore}
+use Rattle.book.specs.LookUp.{sectionStart, countIn, entryHashed, soughtIn, foundIn, isThere, isSuchAt, knownBy, inForceBy, endedBy, inForceUntilBy, standingBy}
 use Rattle.book.proofs.WidthLaws.{body-parts}
 use Rattle.book.proofs.EntryLaws.{form-says}
 use Rattle.book.proofs.KindLaws.{none-sound}
 use Rattle.book.proofs.SectionLaws.{book-sound, section}
-use Rattle.book.proofs.SoughtLaws.{not-kind, not-code, sought-known, sought-on}
+use Rattle.book.proofs.SoughtLaws.{not-kind, sought-known, sought-such}
 
 -- no entry is of another kind than 1 to 8, or has a code of another width
 module _ (k : ℕ) (code : Text) where
@@ -51,14 +51,14 @@ module _ (s : Text) (q : Sections) (h : Sound (take (q .end) s) q) (k : ℕ) (co
   -- a look-up finds f: what that says is what the entries say
   record Says (f : Found) : Type 0 where
     known : isThere f ≡ listed (entries book) k code
-    on : (d : ℕ) → isInForceAt s d k f ≡ listedOn (entries book) d k code
+    such : (p : Entry → Bool) → isSuchAt s p k f ≡ listedSuch (entries book) p k code
 
   none : ((e : Entry) → entryForm e ≡ true → isEntry k code e ≡ false) → Says Absent
-  unfolding listed listedOn
+  unfolding listed listedSuch
   none f =
       record {
         known = sym (none-sound (isEntry k code) 1 [] (entries book) (book-sound book (h .ok)) (λ e l w. f e w));
-        on = λ d. sym (none-sound (λ (e : Entry). isEntry k code e && inForce d e) 1 [] (entries book) (book-sound book (h .ok)) (λ e l w. rw (f e w)));
+        such = λ p. sym (none-sound (λ (e : Entry). isEntry k code e && p e) 1 [] (entries book) (book-sound book (h .ok)) (λ e l w. rw (f e w)));
       }
 
   says : Says (foundIn s q k code)
@@ -69,7 +69,7 @@ module _ (s : Text) (q : Sections) (h : Sound (take (q .end) s) q) (k : ℕ) (co
           → Says (cond (u && v) (soughtIn s k (sectionStart q k) (countIn s q k) code (entryHashed s (q .end) k code)) Absent)
       go true true p w =
           let z = section s q h k (leb-true k 8 p) in
-          record { known = sought-known s book q k (z .0) (z .1) code (entryHashed s (q .end) k code); on = sought-on s book q k (z .0) (z .1) code (entryHashed s (q .end) k code) }
+          record { known = sought-known s book q k (z .0) (z .1) code (entryHashed s (q .end) k code); such = sought-such s book q k (z .0) (z .1) code (entryHashed s (q .end) k code) }
       go true false p w = none (not-wide k code w)
       go false v p w = none (not-high k code p)
 
@@ -80,8 +80,18 @@ module _ (s : Text) (q : Sections) (h : Sound (take (q .end) s) q) (k : ℕ) (co
 
   -- and in force on a day exactly if the book lists it so
   pub in-force-is : (d : ℕ) → inForceBy s q d k code ≡ listedOn (bookOf book) d k code
-  unfolding inForceBy bookOf
-  in-force-is d = says .on d
+  unfolding inForceBy listedOn bookOf
+  in-force-is d = says .such (inForce d)
+
+  -- and ended before a day exactly if the book lists it so
+  pub ended-is : (u : ℕ) → endedBy s q u k code ≡ listedEnded (bookOf book) u k code
+  unfolding endedBy listedEnded bookOf
+  ended-is u = says .such (endedBefore u)
+
+  -- so a look-up says of it what the book's entries say
+  pub standing-is : (d u : ℕ) → standingBy s q k code d u ≡ standingOf (bookOf book) k code d u
+  unfolding standingBy inForceUntilBy standingOf
+  standing-is d u = rw (known-is, in-force-is d, ended-is u)
 
 -- what an answer says
 module _ (s : Text) (q : Sections) (k : ℕ) (code : Text) where
@@ -94,26 +104,40 @@ module _ (s : Text) (q : Sections) (k : ℕ) (code : Text) where
     unfolding knownBy
     known-not h = rw (← e, h)
 
-  module _ (d : ℕ) (r : Standing) (e : r ≡ standingBy s q k code d) where
+  -- no end is before day 0
+  ended-none : (f : Found) → isSuchAt s (endedBefore 0) k f ≡ false
+  unfolding endedBefore
+  ended-none Absent = refl
+  ended-none (At p) = le-ltb (number (endOf (entryOf k (drop (p .at + 1) s)))) 0 (omega arith)
+
+  pub until-none : (d : ℕ) → inForceUntilBy s q d 0 k code ≡ inForceBy s q d k code
+  unfolding inForceUntilBy endedBy
+  until-none d = rw (ended-none (foundIn s q k code)) (go (inForceBy s q d k code))
+    where
+      go : (b : Bool) → (b && true) ≡ b
+      go true = refl
+      go false = refl
+
+  module _ (d u : ℕ) (r : Standing) (e : r ≡ standingBy s q k code d u) where
     abbrev Told : Standing → Type 0
     Told Unknown = knownBy s q k code ≡ false
-    Told OutOfForce = (knownBy s q k code ≡ true) × (inForceBy s q d k code ≡ false)
-    Told InForce = (knownBy s q k code ≡ true) × (inForceBy s q d k code ≡ true)
+    Told OutOfForce = (knownBy s q k code ≡ true) × (inForceUntilBy s q d u k code ≡ false)
+    Told InForce = (knownBy s q k code ≡ true) × (inForceUntilBy s q d u k code ≡ true)
 
-    told : Told (standingBy s q k code d)
+    told : Told (standingBy s q k code d u)
     unfolding standingBy
-    told = go (knownBy s q k code) (inForceBy s q d k code) refl refl
+    told = go (knownBy s q k code) (inForceUntilBy s q d u k code) refl refl
       where
-        go : (u v : Bool) → knownBy s q k code ≡ u → inForceBy s q d k code ≡ v → Told (cond u (cond v InForce OutOfForce) Unknown)
-        go false v p w = p
+        go : (x y : Bool) → knownBy s q k code ≡ x → inForceUntilBy s q d u k code ≡ y → Told (cond x (cond y InForce OutOfForce) Unknown)
+        go false y p w = p
         go true true p w = (p, w)
         go true false p w = (p, w)
 
     pub when-unknown : r ≡ Unknown → knownBy s q k code ≡ false
     when-unknown z = subst Told (sym e ∙ z) told
 
-    pub when-out : r ≡ OutOfForce → (knownBy s q k code ≡ true) × (inForceBy s q d k code ≡ false)
+    pub when-out : r ≡ OutOfForce → (knownBy s q k code ≡ true) × (inForceUntilBy s q d u k code ≡ false)
     when-out z = subst Told (sym e ∙ z) told
 
-    pub when-in : r ≡ InForce → (knownBy s q k code ≡ true) × (inForceBy s q d k code ≡ true)
+    pub when-in : r ≡ InForce → (knownBy s q k code ≡ true) × (inForceUntilBy s q d u k code ≡ true)
     when-in z = subst Told (sym e ∙ z) told

@@ -2,7 +2,7 @@
 -- Assumes nothing.
 use Prim.Native.Nat.{ℕ, zero, suc, _+_}
 use mathlib.Core.Path.{_≡_}
-use mathlib.Core.Bool.{Bool, true, cond, _&&_, _||_}
+use mathlib.Core.Bool.{Bool, true, not, cond, _&&_, _||_}
 use mathlib.Core.List.{List, [], _∷_, _++_}
 use lib.ListN.{length, take, drop}
 use lib.Dec.{eqb, ltb, leb}
@@ -147,6 +147,10 @@ startedBy d e = cond (eqb (e .kind) vaccine) (leb (number (startOf e)) d) true
 unfoldable pub inForce : ℕ → Entry → Bool
 inForce d e = startedBy d e && leb d (number (endOf e))
 
+-- its end is before day u. (Change request 1 asks for it, of today; until then it is asked of day 0, before which no end is.)
+unfoldable pub endedBefore : ℕ → Entry → Bool
+endedBefore u e = ltb (number (endOf e)) u
+
 -- the text with blanks after it, up to w bytes. A longer text stays as it is, and is no code of that width.
 abbrev pub filled : ℕ → Text → Text
 filled zero t = t
@@ -165,13 +169,21 @@ isEntry k code e = eqb (e .kind) k && same (codeOf e) code
 unfoldable pub listed : List Entry → ℕ → Text → Bool
 listed es k code = any (isEntry k code) es
 
--- and is in force on a day: such an entry is
-unfoldable pub listedOn : List Entry → ℕ → ℕ → Text → Bool
-listedOn es d k code = any (λ (e : Entry). isEntry k code e && inForce d e) es
+-- and something holds of such an entry
+unfoldable pub listedSuch : List Entry → (Entry → Bool) → ℕ → Text → Bool
+listedSuch es p k code = any (λ (e : Entry). isEntry k code e && p e) es
 
--- what the entries say of a code on a day: unknown; known, not in force; in force
-unfoldable pub standingOf : List Entry → ℕ → Text → ℕ → Standing
-standingOf es k code d = cond (listed es k code) (cond (listedOn es d k code) InForce OutOfForce) Unknown
+-- the code is in force on a day: such an entry is
+unfoldable pub listedOn : List Entry → ℕ → ℕ → Text → Bool
+listedOn es d k code = listedSuch es (inForce d) k code
+
+-- the code ended before a day: such an entry did
+unfoldable pub listedEnded : List Entry → ℕ → ℕ → Text → Bool
+listedEnded es u k code = listedSuch es (endedBefore u) k code
+
+-- what the entries say of a code on day d, where its end is not to be before day u: unknown; known, not in force; in force
+unfoldable pub standingOf : List Entry → ℕ → Text → ℕ → ℕ → Standing
+standingOf es k code d u = cond (listed es k code) (cond (listedOn es d k code && not (listedEnded es u k code)) InForce OutOfForce) Unknown
 
 -- Reading a book
 

@@ -2,7 +2,7 @@
 -- Assumes nothing.
 use Prim.Native.Nat.{ℕ, suc, _+_, _≤_, _<_}
 use mathlib.Core.Path.{_≡_}
-use mathlib.Core.Bool.{Bool, true, false, cond, _&&_}
+use mathlib.Core.Bool.{Bool, true, false, not, cond, _&&_}
 use mathlib.Core.List.{List, [], _∷_, _++_}
 use lib.ListN.{length, getD, take, drop}
 use lib.Dec.{eqb, leb}
@@ -14,8 +14,8 @@ use Rattle.book.specs.declared.Found.{Found}
 use Rattle.book.specs.declared.Found.the-variants.{At, Absent}
 use Rattle.book.specs.declared.Standing.{Standing}
 use Rattle.book.specs.declared.Standing.the-variants.{Unknown, OutOfForce, InForce}
-use Rattle.book.specs.LookUp.{sectionStart, countFrom, entryHashed, namedIn, searchedIn, soughtIn, isThere, isInForceAt}
-use Rattle.book.specs.Book.{firstWidth, secondWidth, codeWidth, bodyWidth, Entry, entryOf, entries, codeOf, bodyForm, entryForm, above, bytesBefore, codeText}
+use Rattle.book.specs.LookUp.{sectionStart, countFrom, entryHashed, namedIn, searchedIn, soughtIn, isThere, isSuchAt}
+use Rattle.book.specs.Book.{firstWidth, secondWidth, codeWidth, bodyWidth, Entry, entryOf, entries, codeOf, bodyForm, entryForm, above, bytesBefore, inForce, endedBefore, codeText}
 
 -- Validity, kind by kind
 
@@ -127,8 +127,12 @@ foundBy s k w end a b =
     let code = codeText k a b in
     cond (eqb (length code) (codeWidth k)) (soughtIn s k (w .from) (countFrom s k (w .from) (w .to)) code (entryHashed s end k code)) Absent
 
--- what it says on day d
-unfoldable pub saidBy : Text → ℕ → Layout → ℕ → Text → Text → ℕ → Standing
-saidBy s k w end a b d =
+-- an entry is in force on day d, and did not end before day u
+abbrev pub inForceUntil : ℕ → ℕ → Entry → Bool
+inForceUntil d u e = inForce d e && not (endedBefore u e)
+
+-- what it says on day d, where its end is not to be before day u
+unfoldable pub saidBy : Text → ℕ → Layout → ℕ → Text → Text → ℕ → ℕ → Standing
+saidBy s k w end a b d u =
     let f = foundBy s k w end a b in
-    cond (isThere f) (cond (isInForceAt s d k f) InForce OutOfForce) Unknown
+    cond (isThere f) (cond (isSuchAt s (inForceUntil d u) k f) InForce OutOfForce) Unknown

@@ -1,10 +1,10 @@
 -- Look-up in any bytes, by any sections: the entry that the hash of a code names is asked first, then a binary search goes on among the
--- entries of one kind, which all have the same width. What it says are two things of a code: that it is known, and that it is in force on a
--- day. For bytes that start with a valid book, by its own sections, they are what the book's entries say, whatever the hash table
+-- entries of one kind, which all have the same width. What it says are three things of a code: that it is known, that it is in force on
+-- a day, and that it ended before a day. For bytes that start with a valid book, by its own sections, they are what the book's entries say, whatever the hash table
 -- (proofs/StandingLaws).
 -- Assumes nothing.
 use Prim.Native.Nat.{ℕ, zero, suc, _+_, _-_, _*_, _/_, _%_}
-use mathlib.Core.Bool.{Bool, true, false, cond, _&&_}
+use mathlib.Core.Bool.{Bool, true, false, not, cond, _&&_}
 use mathlib.Core.List.{[], _∷_, _++_}
 use lib.ListN.{length, take, drop, getD, set}
 use lib.Dec.{eqb, ltb, leb}
@@ -16,7 +16,7 @@ use Rattle.book.specs.declared.Found.{Found}
 use Rattle.book.specs.declared.Found.the-variants.{At, Absent}
 use Rattle.book.specs.declared.Standing.{Standing}
 use Rattle.book.specs.declared.Standing.the-variants.{Unknown, OutOfForce, InForce}
-use Rattle.book.specs.Book.{firstWidth, codeWidth, bodyWidth, entryOf, inForce}
+use Rattle.book.specs.Book.{firstWidth, codeWidth, bodyWidth, Entry, entryOf, inForce, endedBefore}
 
 -- where the entries of kind k start, and those of the kind before it end
 unfoldable pub sectionStart : Sections → ℕ → ℕ
@@ -110,10 +110,10 @@ abbrev pub isThere : Found → Bool
 isThere Absent = false
 isThere (At p) = true
 
--- the entry of kind k that was found is in force on day d
-abbrev pub isInForceAt : Text → ℕ → ℕ → Found → Bool
-isInForceAt s d k Absent = false
-isInForceAt s d k (At p) = inForce d (entryOf k (drop (p .at + 1) s))
+-- something holds of the entry of kind k that was found
+abbrev pub isSuchAt : Text → (Entry → Bool) → ℕ → Found → Bool
+isSuchAt s p k Absent = false
+isSuchAt s p k (At a) = p (entryOf k (drop (a .at + 1) s))
 
 -- the code is known
 unfoldable pub knownBy : Text → Sections → ℕ → Text → Bool
@@ -121,11 +121,19 @@ knownBy s q k code = isThere (foundIn s q k code)
 
 -- the code is in force on day d
 unfoldable pub inForceBy : Text → Sections → ℕ → ℕ → Text → Bool
-inForceBy s q d k code = isInForceAt s d k (foundIn s q k code)
+inForceBy s q d k code = isSuchAt s (inForce d) k (foundIn s q k code)
 
--- what is said of a code on day d
-unfoldable pub standingBy : Text → Sections → ℕ → Text → ℕ → Standing
-standingBy s q k code d = cond (knownBy s q k code) (cond (inForceBy s q d k code) InForce OutOfForce) Unknown
+-- the code ended before day u
+unfoldable pub endedBy : Text → Sections → ℕ → ℕ → Text → Bool
+endedBy s q u k code = isSuchAt s (endedBefore u) k (foundIn s q k code)
+
+-- the code is in force on day d, and did not end before day u
+unfoldable pub inForceUntilBy : Text → Sections → ℕ → ℕ → ℕ → Text → Bool
+inForceUntilBy s q d u k code = inForceBy s q d k code && not (endedBy s q u k code)
+
+-- what is said of a code on day d, where its end is not to be before day u
+unfoldable pub standingBy : Text → Sections → ℕ → Text → ℕ → ℕ → Standing
+standingBy s q k code d u = cond (knownBy s q k code) (cond (inForceUntilBy s q d u k code) InForce OutOfForce) Unknown
 
 -- The hash table
 

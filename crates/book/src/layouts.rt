@@ -10,7 +10,7 @@ use crate::kinds::VACCINE;
 use crate::kinds::WITH_ANTIGEN;
 use crate::kinds::WITH_REASON;
 ghost use mathlib.Core.Path.{_≡_};
-ghost use Prim.Native.Nat.{_≤_, _+_, _-_, _*_};
+ghost use Prim.Native.Nat.{_≤_, _-_, _*_};
 ghost use lib.ListN.{length};
 ghost use Rattle.book.specs.LookUp.{countFrom};
 ghost use Rattle.book.specs.Inside.{layout, LayoutIs, WidthsAre};

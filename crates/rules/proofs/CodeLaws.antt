@@ -16,7 +16,7 @@ use Rattle.rules_forms.specs.FieldLeaves.{lowest, givenIn}
 use Rattle.rules_forms.proofs.FieldLaws.{given-in}
 use Rattle.rules_fields.specs.declared.Day.{Day}
 use Rattle.book.specs.LookUp.{knownBy, inForceBy}
-use Rattle.rules_fields.specs.Fields.{broken, rules4and5Of, codeBy, isPairWrong}
+use Rattle.rules_fields.specs.Fields.{broken, rules4and5Of, isOut, codeBy, isPairWrong}
 use Rattle.rules.specs.declared.By.{By}
 use Rattle.rules.specs.Inside.{listed}
 use Rattle.rules.specs.Fields.{DayIs, Looks}
@@ -26,7 +26,7 @@ use Rattle.rules.proofs.LowestLaws.{Loose, low, one-broken}
 -- rules 4 and 5 of code c of the book's kind `of`, at a field with text u
 abbrev pub codeOf : ℕ → Text → Text → Sections → Day → Text → ℕ
 codeOf of c book q day u =
-    rules4and5Of (isEmpty u) (knownBy book q of (codeText of c [])) (day .sound && not (inForceBy book q (day .number) of (codeText of c [])))
+    rules4and5Of (isEmpty u) (knownBy book q of (codeText of c [])) (isOut of (codeText of c []) book q day)
 
 -- rule 11 of code c of the book's kind `of` and a vaccine, which make a pair of kind `pair`
 abbrev pub pairOf : ℕ → ℕ → Text → Text → Text → ℕ → ℕ → Text → Sections → Day → ℕ
@@ -58,7 +58,7 @@ module _ (s : Setting) (v : Seen) (by : By) (book : Text) (day : Day) (ls : Look
     known-same : knownBy book (by .sections) of y ≡ s .known of c
     known-same = sym (ap (s .known of) ce ∙ ap (λ (g : ℕ → Text → Bool). g of y) (ls .known-is))
 
-    force-same : (day .sound && not (inForceBy book (by .sections) (day .number) of y)) ≡ (dayIsSound v && not (isInForce s v of c))
+    force-same : isOut of y book (by .sections) day ≡ (dayIsSound v && not (isInForce s v of c))
     unfolding isInForce
     force-same = go (day .sound) refl ∙ ap (λ (b : Bool). b && not (s .in-force (recordDay v) of c)) (sym (d .sound-is))
       where

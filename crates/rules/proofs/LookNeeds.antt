@@ -3,7 +3,7 @@
 use mathlib.Core.Path.{_≡_, sym, ap, _∙_}
 use mathlib.Core.Bool.{Bool, true, false}
 use mathlib.Core.List.{List, _++_, append-nil, append-assoc}
-use Prim.Native.Nat.{ℕ, _+_, _-_, _≤_, _<_}
+use Prim.Native.Nat.{ℕ, _-_, _≤_, _<_}
 use native.Mathlib.Omega.{arith}
 use borrow.Author.Needs.{needs}
 use borrow.Author.Tests.{eq-eqb, ne-eqb}
@@ -37,16 +37,16 @@ use Rattle.rules.specs.declared.Open.{Open}
 use Rattle.rules.specs.declared.BlockAt.{BlockAt}
 use Rattle.rules_fields.specs.declared.Day.{Day}
 use Rattle.rules_fields.specs.declared.Facts.{Facts}
-use Rattle.rules.specs.Walk.{partOf, recIn, ReadIn, dayOf, joinsOpenBy, blockBy, factsBy, vaccineBy, dayBy, OwnIs, OwnEnd}
+use Rattle.rules.specs.Walk.{partOf, recIn, ReadIn, oneDay, noDay, dayOf, joinsOpenBy, blockBy, factsBy, vaccineBy, dayBy, OwnIs, OwnEnd}
 use Rattle.rules.proofs.WalkLaws.{no-recs, kind-is, recs-next}
 
 -- day_of_text
 module _ (t : Text) (d : Dated) (e : d ≡ datedOf t) where
-  pub day-there : (n : Date) → d ≡ AnyDay n → _≡_ {A = Day} (record { sound = true; number = n .number }) (dayOf t)
+  pub day-there : (n : Date) → d ≡ AnyDay n → oneDay (n .number) ≡ dayOf t
   unfolding dayOf
   day-there n h = rw (dated-true t n (sym e ∙ h), dated-number t n (sym e ∙ h))
 
-  pub day-none : d ≡ NoDate → _≡_ {A = Day} (record { sound = false; number = 0 }) (dayOf t)
+  pub day-none : d ≡ NoDate → noDay ≡ dayOf t
   unfolding dayOf
   day-none h = rw (dated-false t (sym e ∙ h))
 

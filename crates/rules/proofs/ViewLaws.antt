@@ -7,7 +7,7 @@ use Prim.Native.Nat.{ℕ, _≤_, _<_}
 use native.Mathlib.Omega.{arith}
 use borrow.Author.Tests.{eqb-true, eqb-false, leb-true}
 use lib.Dec.{eqb, leb}
-use lib.ListN.{length, take, drop}
+use lib.ListN.{length, drop}
 use Rattle.house.specs.Text.{Text, number, within, those}
 use Rattle.house.proofs.Small.{both, clash}
 use Rattle.dates.specs.Dates.{isDate}
@@ -18,7 +18,7 @@ use Rattle.lines.specs.Records.{Rec, IP, II, IE, IN, IA, isKind, recs}
 use Rattle.ledger.specs.Ledger.{Event, foundIn}
 use Rattle.rules_definitions.specs.Forms.{text, isSound}
 use Rattle.rules_definitions.specs.Contexts.{Context, nearest, headKind, headOf}
-use Rattle.rules_definitions.specs.Blocks.{isInBlock, eventOf, joinsOpen, beforeBlock}
+use Rattle.rules_definitions.specs.Blocks.{isInBlock, eventOf, beforeBlock}
 use Rattle.rules_definitions.specs.Seen.{Setting, Seen, seenAt}
 use Rattle.rules_definitions.specs.Codes.{dayField, dayIsSound, recordDay}
 use Rattle.rules_forms.proofs.SoundLaws.{ip-25, ii-6, in-5}
@@ -32,7 +32,7 @@ use Rattle.rules_fields.specs.declared.Day.{Day}
 use Rattle.rules.specs.Under.{withRepeated, repeatedBy, seenBy}
 use Rattle.rules_plain.specs.PlainFields.{bornOf}
 use Rattle.rules.specs.Fields.{DayIs, Looks, Blocked, Told}
-use Rattle.rules.specs.Walk.{partOf, lineRec, linesBefore, dayOf, Holds, blockBy, factsBy, vaccineBy, dayBy, hereWith, HereIs}
+use Rattle.rules.specs.Walk.{partOf, lineRec, linesBefore, oneDay, noDay, dayOf, Holds, factsBy, vaccineBy, dayBy, hereWith, HereIs}
 use Rattle.rules.proofs.SeenLaws as seen
 
 -- the day of birth
@@ -40,7 +40,7 @@ born-is : (ip : Rec) → bornOf ip ≡ dayOf (text ip 25) .number
 unfolding dayOf bornOf
 born-is ip = rw (ip-25 ip) (go (isDate (text ip 25)))
   where
-    go : (t : Bool) → cond t (number (text ip 25)) 0 ≡ (cond {A = Day} t (record { sound = true; number = number (text ip 25) }) (record { sound = false; number = 0 })) .number
+    go : (t : Bool) → cond t (number (text ip 25)) 0 ≡ (cond {A = Day} t (oneDay (number (text ip 25))) noDay) .number
     go true = refl
     go false = refl
 
@@ -49,7 +49,7 @@ day-sound : (t : Text) → dayOf t .sound ≡ isDate t
 unfolding dayOf
 day-sound t = go (isDate t)
   where
-    go : (b : Bool) → (cond {A = Day} b (record { sound = true; number = number t }) (record { sound = false; number = 0 })) .sound ≡ b
+    go : (b : Bool) → (cond {A = Day} b (oneDay (number t)) noDay) .sound ≡ b
     go true = refl
     go false = refl
 
@@ -57,8 +57,8 @@ day-number : (t : Text) → dayOf t .sound ≡ true → number t ≡ dayOf t .nu
 unfolding dayOf
 day-number t = go (isDate t)
   where
-    go : (b : Bool) → (cond {A = Day} b (record { sound = true; number = number t }) (record { sound = false; number = 0 })) .sound ≡ true
-        → number t ≡ (cond {A = Day} b (record { sound = true; number = number t }) (record { sound = false; number = 0 })) .number
+    go : (b : Bool) → (cond {A = Day} b (oneDay (number t)) noDay) .sound ≡ true
+        → number t ≡ (cond {A = Day} b (oneDay (number t)) noDay) .number
     go true e = refl
     go false e = clash (cc)
 

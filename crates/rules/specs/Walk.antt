@@ -1,38 +1,33 @@
 -- Working definitions: the walk over the lines, what its state says of the lines before, and what is known at a line. No public contract rests
 -- on this page.
 -- Assumes nothing.
-use Prim.Native.Nat.{ℕ, suc, _+_, _*_, _^_, _≤_, _<_}
+use Prim.Native.Nat.{ℕ, suc, _+_, _≤_, _<_}
 use mathlib.Core.Path.{_≡_}
-use mathlib.Core.Bool.{Bool, true, false, not, cond, _&&_}
-use mathlib.Core.List.{List, [], _∷_, reverse}
+use mathlib.Core.Bool.{Bool, true, false, cond, _&&_}
+use mathlib.Core.List.{List, reverse}
 use lib.ListN.{length, getD, take, drop}
 use lib.Dec.{eqb}
-use Rattle.house.specs.Text.{Text, those, howMany, front, isEmpty, within, same, number, joined}
+use Rattle.house.specs.Text.{Text, those, howMany, front, isEmpty, same, number, joined}
 use Rattle.dates.specs.Dates.{isDate}
 use Rattle.lines_fields.specs.declared.Span.{Span}
 use Rattle.lines_fields.specs.Lines.{lineOf, lineLen}
 use Rattle.lines_fields.specs.Marks.{markCount, marksAt, span, judgedSpan}
-use Rattle.lines.specs.Records.{Rec, IP, II, IE, IN, IA, isKind, recOf, recs}
+use Rattle.lines.specs.Records.{Rec, IP, II, IE, IN, isKind, recOf, recs}
 use Rattle.lines.specs.Inside.{whole}
 use Rattle.lines_fields.specs.Inside.{part}
 use Rattle.ledger.specs.Ledger.{foundIn}
 use Rattle.rules_walk.specs.Repeats.{isNoted}
 use Rattle.rules_definitions.specs.Forms.{text}
-use Rattle.rules_definitions.specs.Contexts.{contextsFrom, nearest, isNumbered}
-use Rattle.rules_definitions.specs.Blocks.{isInBlock, eventOf, nearestOf, openAfter, hasSecond, firstOpen, beforeOpen, begins}
-use Rattle.rules_definitions.specs.Seen.{Setting}
-use Rattle.rules_definitions.specs.Findings.{Finding}
+use Rattle.rules_definitions.specs.Contexts.{nearest, isNumbered}
+use Rattle.rules_definitions.specs.Blocks.{isInBlock, eventOf, nearestOf, openAfter, hasSecond, firstOpen, beforeOpen}
 use Rattle.rules.specs.declared.Open.{Open}
 use Rattle.rules.specs.declared.Known.{Known}
-use Rattle.rules.specs.declared.Block.{Block}
 use Rattle.rules.specs.declared.State.{State}
 use Rattle.rules.specs.declared.Read.{Read}
 use Rattle.rules.specs.declared.BlockAt.{BlockAt}
 use Rattle.rules.specs.declared.Here.{Here}
 use Rattle.rules_fields.specs.declared.Facts.{Facts}
 use Rattle.rules_fields.specs.declared.Day.{Day}
-use Rattle.rules.specs.Inside.{kept, keep}
-use Rattle.rules.specs.Under.{lineFindingsBy}
 
 abbrev pub partOf : Text → Span → Text
 partOf s p = part s (p .start) (p .end)
@@ -71,9 +66,16 @@ pub record LinesAre (file : Text) (at : ℕ) (p : Span) (ls : List Rec) : Type 0
   pub from : p .start ≤ p .end
   pub upto : p .end ≤ at
 
+-- a day of this number, and none
+abbrev pub oneDay : ℕ → Day
+oneDay n = record { sound = true; number = n }
+
+abbrev pub noDay : Day
+noDay = record { sound = false; number = 0 }
+
 -- the day that a text gives, if it is a date
 unfoldable pub dayOf : Text → Day
-dayOf t = cond (isDate t) (record { sound = true; number = number t }) (record { sound = false; number = 0 })
+dayOf t = cond (isDate t) (oneDay (number t)) noDay
 
 -- where fields 3, 4, 6 and 8 of a line stand
 pub record OpenIs (file : Text) (o : Open) (l : Rec) : Type 0 where
@@ -109,9 +111,6 @@ pub record Holds (file : Text) (at : ℕ) (st : State) : Type 0 where
   pub n-small : st .n ≤ at + 1
   pub place-small : st .place ≤ at + 1
   pub not-immunized-small : st .«not_immunized» ≤ at
-
-abbrev pub noDay : Day
-noDay = record { sound = false; number = 0 }
 
 -- of a line that is not there
 abbrev pub noOpen : Open

@@ -10,70 +10,71 @@ use Rattle.book.specs.declared.Standing.{Standing}
 use Rattle.book.specs.declared.Standing.the-variants.{Unknown, OutOfForce, InForce}
 use Rattle.book.specs.Book.{codeText}
 use Rattle.book.specs.LookUp.{knownBy, inForceBy, standingBy}
-use Rattle.book.proofs.StandingLaws.{when-unknown, when-out, when-in}
-use Rattle.rules_fields.specs.Fields.{rules4and5Of}
+use Rattle.book.proofs.StandingLaws.{until-none, when-unknown, when-out, when-in}
+use Rattle.rules_fields.specs.declared.Day.{Day}
+use Rattle.rules_fields.specs.Fields.{rules4and5Of, isOut}
 
 -- is_known
-module _ (s : Text) (q : Sections) (k : ℕ) (x : Text) (d : ℕ) (r : Standing) (e : r ≡ standingBy s q k x d) where
-  pub is-unknown : r ≡ Unknown → false ≡ knownBy s q k x
-  is-unknown z = sym (when-unknown s q k x d r e z)
+module _ (s : Text) (q : Sections) (k : ℕ) (x : Text) (d u : ℕ) (r : Standing) (e : r ≡ standingBy s q k x d u) where
+  pub known-when-unknown : r ≡ Unknown → false ≡ knownBy s q k x
+  known-when-unknown z = sym (when-unknown s q k x d u r e z)
 
-  pub is-out : r ≡ OutOfForce → true ≡ knownBy s q k x
-  is-out z = sym (when-out s q k x d r e z .0)
+  pub known-when-out : r ≡ OutOfForce → true ≡ knownBy s q k x
+  known-when-out z = sym (when-out s q k x d u r e z .0)
 
-  pub is-in : r ≡ InForce → true ≡ knownBy s q k x
-  is-in z = sym (when-in s q k x d r e z .0)
+  pub known-when-in : r ≡ InForce → true ≡ knownBy s q k x
+  known-when-in z = sym (when-in s q k x d u r e z .0)
 
-module _ (s : Text) (q : Sections) (k : ℕ) (a b : Text) (d : ℕ) (r : Standing) (e : r ≡ standingBy s q k (codeText k a b) d) (dated : Bool) where
+module _ (s : Text) (q : Sections) (k : ℕ) (a b : Text) (day : Day) (r : Standing) (e : r ≡ standingBy s q k (codeText k a b) (day .number) 0) where
   unknown : r ≡ Unknown → knownBy s q k (codeText k a b) ≡ false
-  unknown = when-unknown s q k (codeText k a b) d r e
+  unknown = when-unknown s q k (codeText k a b) (day .number) 0 r e
 
-  out : r ≡ OutOfForce → (knownBy s q k (codeText k a b) ≡ true) × (inForceBy s q d k (codeText k a b) ≡ false)
-  out = when-out s q k (codeText k a b) d r e
+  out : r ≡ OutOfForce → (knownBy s q k (codeText k a b) ≡ true) × (inForceBy s q (day .number) k (codeText k a b) ≡ false)
+  out z = let w = when-out s q k (codeText k a b) (day .number) 0 r e z in (w .0, sym (until-none s q k (codeText k a b) (day .number)) ∙ w .1)
 
-  in-force : r ≡ InForce → (knownBy s q k (codeText k a b) ≡ true) × (inForceBy s q d k (codeText k a b) ≡ true)
-  in-force = when-in s q k (codeText k a b) d r e
+  in-force : r ≡ InForce → (knownBy s q k (codeText k a b) ≡ true) × (inForceBy s q (day .number) k (codeText k a b) ≡ true)
+  in-force z = let w = when-in s q k (codeText k a b) (day .number) 0 r e z in (w .0, sym (until-none s q k (codeText k a b) (day .number)) ∙ w .1)
 
   -- rules4_and_5_code
-  pub later-unknown : r ≡ Unknown → 4 ≡ rules4and5Of false (knownBy s q k (codeText k a b)) (dated && not (inForceBy s q d k (codeText k a b)))
+  pub later-unknown : r ≡ Unknown → 4 ≡ rules4and5Of false (knownBy s q k (codeText k a b)) (isOut k (codeText k a b) s q day)
   unfolding rules4and5Of
   later-unknown z = rw (unknown z)
 
-  pub later-in : r ≡ InForce → 0 ≡ rules4and5Of false (knownBy s q k (codeText k a b)) (dated && not (inForceBy s q d k (codeText k a b)))
+  pub later-in : r ≡ InForce → 0 ≡ rules4and5Of false (knownBy s q k (codeText k a b)) (isOut k (codeText k a b) s q day)
   unfolding rules4and5Of
-  later-in z = rw (in-force z .0, in-force z .1) (go dated)
+  later-in z = rw (in-force z .0, in-force z .1) (go (day .sound))
     where
       go : (x : Bool) → _≡_ {A = ℕ} 0 (cond (x && false) 5 0)
       go true = refl
       go false = refl
 
-  pub rule5-out : r ≡ OutOfForce → dated ≡ true → 5 ≡ rules4and5Of false (knownBy s q k (codeText k a b)) (dated && not (inForceBy s q d k (codeText k a b)))
+  pub rule5-out : r ≡ OutOfForce → day .sound ≡ true → 5 ≡ rules4and5Of false (knownBy s q k (codeText k a b)) (isOut k (codeText k a b) s q day)
   unfolding rules4and5Of
   rule5-out z x = rw (out z .0, out z .1, x)
 
-  pub later-undated : r ≡ OutOfForce → dated ≡ false → 0 ≡ rules4and5Of false (knownBy s q k (codeText k a b)) (dated && not (inForceBy s q d k (codeText k a b)))
+  pub later-undated : r ≡ OutOfForce → day .sound ≡ false → 0 ≡ rules4and5Of false (knownBy s q k (codeText k a b)) (isOut k (codeText k a b) s q day)
   unfolding rules4and5Of
   later-undated z x = rw (out z .0, x)
 
   -- pair_wrong
-  pub pair-unknown : r ≡ Unknown → true ≡ not (knownBy s q k (codeText k a b)) || (dated && not (inForceBy s q d k (codeText k a b)))
+  pub pair-unknown : r ≡ Unknown → true ≡ not (knownBy s q k (codeText k a b)) || isOut k (codeText k a b) s q day
   pair-unknown z = rw (unknown z)
 
-  pub pair-in : r ≡ InForce → false ≡ not (knownBy s q k (codeText k a b)) || (dated && not (inForceBy s q d k (codeText k a b)))
-  pair-in z = rw (in-force z .0, in-force z .1) (go dated)
+  pub pair-in : r ≡ InForce → false ≡ not (knownBy s q k (codeText k a b)) || isOut k (codeText k a b) s q day
+  pair-in z = rw (in-force z .0, in-force z .1) (go (day .sound))
     where
       go : (x : Bool) → false ≡ (x && false)
       go true = refl
       go false = refl
 
-  pub pair-out : r ≡ OutOfForce → dated ≡ not (knownBy s q k (codeText k a b)) || (dated && not (inForceBy s q d k (codeText k a b)))
-  pair-out z = rw (out z .0, out z .1) (go dated)
+  pub pair-out : r ≡ OutOfForce → day .sound ≡ not (knownBy s q k (codeText k a b)) || isOut k (codeText k a b) s q day
+  pair-out z = rw (out z .0, out z .1) (go (day .sound))
     where
       go : (x : Bool) → x ≡ (x && true)
       go true = refl
       go false = refl
 
-pub ruleset for-known = (needs, is-unknown, is-out, is-in)
+pub ruleset for-known = (needs, known-when-unknown, known-when-out, known-when-in)
 
 pub ruleset for-rules4-and-5-code = (needs, later-unknown, later-in, rule5-out, later-undated)
 

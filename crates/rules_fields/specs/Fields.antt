@@ -26,15 +26,19 @@ broken a b c = record { a = a; b = b; c = c }
 unfoldable pub rules4and5Of : Bool → Bool → Bool → ℕ
 rules4and5Of empty known out = cond empty 0 (cond known (cond out 5 0) 4)
 
+-- on a day that is sound, no entry of this kind and code, as the book writes it, is in force
+abbrev pub isOut : ℕ → Text → Text → Sections → Day → Bool
+isOut of code book q day = day .sound && not (inForceBy book q (day .number) of code)
+
 -- rules 4 and 5 of a code of a kind of the book that is given
 abbrev pub rules4and5By : ℕ → Text → Text → Sections → Day → ℕ
 rules4and5By of code book q day =
-    rules4and5Of false (knownBy book q of (codeText of code [])) (day .sound && not (inForceBy book q (day .number) of (codeText of code [])))
+    rules4and5Of false (knownBy book q of (codeText of code [])) (isOut of (codeText of code []) book q day)
 
 -- a pair of codes is absent from the book, or out of force on a day that is sound
 abbrev pub isPairWrong : ℕ → Text → Text → Text → Sections → Day → Bool
 isPairWrong pair a b book q day =
-    not (knownBy book q pair (codeText pair a b)) || (day .sound && not (inForceBy book q (day .number) pair (codeText pair a b)))
+    not (knownBy book q pair (codeText pair a b)) || isOut pair (codeText pair a b) book q day
 
 -- rules 16 to 18, by the type
 unfoldable pub rules16to18At : Bool → Text → Bool → ℕ
@@ -44,8 +48,7 @@ rules16to18At inb type live = cond inb (cond live (cond (same type adds) 16 0) (
 abbrev pub codeBy : ℕ → Bool → ℕ → Text → Text → Text → Sections → Day → ℕ
 codeBy k relaxed f t code book q day =
     lowestIn k relaxed f t
-    (rules4and5Of (isEmpty t) (knownBy book q (bookKind k f) (codeText (bookKind k f) code []))
-    (day .sound && not (inForceBy book q (day .number) (bookKind k f) (codeText (bookKind k f) code []))))
+    (rules4and5Of (isEmpty t) (knownBy book q (bookKind k f) (codeText (bookKind k f) code [])) (isOut (bookKind k f) (codeText (bookKind k f) code []) book q day))
 
 -- field f of a record of kind k, with text t read as this code, is given, and the book has its code
 abbrev pub codeKnownBy : ℕ → ℕ → Text → Text → Text → Sections → Bool

@@ -1,5 +1,6 @@
 // Runs the code book on the vectors of its standard input, and prints what it answers. A case is two parts: a book, and what is asked of it,
-// itself a stream of parts, three for each: one byte of kind and four of the day; a code; a second code.
+// itself a stream of parts, three for each: one byte of kind, four of the day and four of the second day; a code; a second
+// code.
 use book::Found;
 use book::Position;
 use book::Read;
@@ -94,7 +95,16 @@ fn say_asked(book: &[u8], sections: Sections, asks: &[u8]) {
             let b1 = b.end;
             if k < asks.len() {
                 let day = vectors_stream::number_at(asks, k + 1);
-                say_standing(book, sections, asks[k], &asks[a0..a1], &asks[b0..b1], day);
+                let until = vectors_stream::number_at(asks, k + 5);
+                say_standing(
+                    book,
+                    sections,
+                    asks[k],
+                    &asks[a0..a1],
+                    &asks[b0..b1],
+                    day,
+                    until,
+                );
             }
             if b1 <= at {
                 return;
@@ -106,8 +116,16 @@ fn say_asked(book: &[u8], sections: Sections, asks: &[u8]) {
     }
 }
 
-// Where the code is found, and whether it is unknown, out of force or in force on the day.
-fn say_standing(book: &[u8], sections: Sections, kind: u8, a: &[u8], b: &[u8], day: u32) {
+// Where the code is found, and whether it is unknown, out of force or in force on the day, where its end is not to be before another.
+fn say_standing(
+    book: &[u8],
+    sections: Sections,
+    kind: u8,
+    a: &[u8],
+    b: &[u8],
+    day: u32,
+    until: u32,
+) {
     let f = book::find(book, sections, kind, a, b);
     match f {
         Found::At(place) => {
@@ -117,7 +135,7 @@ fn say_standing(book: &[u8], sections: Sections, kind: u8, a: &[u8], b: &[u8], d
             io::write_all(1, b"absent ");
         }
     }
-    let s = book::look_up(book, sections, kind, a, b, day);
+    let s = book::look_up(book, sections, kind, a, b, day, until);
     match s {
         Standing::Unknown => {
             io::write_all(1, b"unknown ");

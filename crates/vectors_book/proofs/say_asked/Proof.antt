@@ -36,4 +36,6 @@ say-asked-spec =
     (λ c. search for-cases)
     (λ c. search for-cases)
     (λ c. search for-cases)
+    (λ c. search for-cases)
+    (λ c. search for-cases)
     (λ c. search for-cases))
