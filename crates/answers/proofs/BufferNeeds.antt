@@ -8,21 +8,22 @@ use borrow.Author.Needs.{needs}
 use lib.ListN.{length, take}
 use lib.Seq.{take-all}
 use Rattle.house.specs.Text.{Text}
-use Rattle.book.specs.declared.Sections.{Sections}
 use Rattle.book.specs.LookUp.{withHashTable}
 use Rattle.book.proofs.ValidLaws.{book-small, hash-table-starts, end-is}
+use Rattle.rules.specs.declared.By.{By}
+use Rattle.rules.specs.Look.{bookIn}
 use Rattle.answers.specs.Answers.{Outcome, lent, judged}
 use Rattle.answers.specs.Inside.{Ready}
 
 -- judge_by_hash
-module _ (today : ℕ) (file book ledger area : Text) (q : Sections) (live : ℕ) (ready : Ready (lent today file book ledger area) q live) (room bytes : Text) (size : length room ≡ 327680) (e : bytes ≡ withHashTable book q room) where
-  starts : take (q .end) bytes ≡ book
-  starts = ap (take (q .end)) e ∙ hash-table-starts book q room (ready .book) (omega (arith, book-small book q (ready .book)))
+module _ (today : ℕ) (file book ledger area : Text) (by : By) (ready : Ready (lent today file book ledger area) by) (room bytes : Text) (size : length room ≡ 327680) (e : bytes ≡ withHashTable book (by .sections) room) where
+  starts : bookIn by bytes ≡ book
+  starts = ap (bookIn by) e ∙ hash-table-starts book (by .sections) room (ready .book) (omega (arith, book-small book (by .sections) (ready .book)))
 
-  pub hashed-ready : Ready (lent today file (take (q .end) bytes) ledger area) q live
-  hashed-ready = subst (λ (b : Text). Ready (lent today file b ledger area) q live) (sym starts) ready
+  pub hashed-ready : Ready (lent today file (bookIn by bytes) ledger area) by
+  hashed-ready = subst (λ (b : Text). Ready (lent today file b ledger area) by) (sym starts) ready
 
-  pub hashed-on : (o : Outcome) → o ≡ judged (lent today file (take (q .end) bytes) ledger area) → o ≡ judged (lent today file book ledger area)
+  pub hashed-on : (o : Outcome) → o ≡ judged (lent today file (bookIn by bytes) ledger area) → o ≡ judged (lent today file book ledger area)
   hashed-on o f = f ∙ ap (λ (b : Text). judged (lent today file b ledger area)) starts
 
 pub ruleset for-judge-by-hash = (needs, hashed-ready, hashed-on)
@@ -35,14 +36,14 @@ pub full-room : (file : Text) (room : List ℕ) → length file ≤ 5000000 → 
 full-room file room h size = omega arith
 
 -- judge_short: nothing follows the book
-module _ (today : ℕ) (file book ledger area : Text) (q : Sections) (live : ℕ) (ready : Ready (lent today file book ledger area) q live) where
-  all-of-it : take (q .end) book ≡ book
-  all-of-it = ap (λ (n : ℕ). take n book) (end-is book q (ready .book)) ∙ take-all (length book) book (omega arith)
+module _ (today : ℕ) (file book ledger area : Text) (by : By) (ready : Ready (lent today file book ledger area) by) where
+  all-of-it : bookIn by book ≡ book
+  all-of-it = ap (λ (n : ℕ). take n book) (end-is book (by .sections) (ready .book)) ∙ take-all (length book) book (omega arith)
 
-  pub short-ready : Ready (lent today file (take (q .end) book) ledger area) q live
-  short-ready = subst (λ (b : Text). Ready (lent today file b ledger area) q live) (sym all-of-it) ready
+  pub short-ready : Ready (lent today file (bookIn by book) ledger area) by
+  short-ready = subst (λ (b : Text). Ready (lent today file b ledger area) by) (sym all-of-it) ready
 
-  pub short-on : (o : Outcome) → o ≡ judged (lent today file (take (q .end) book) ledger area) → o ≡ judged (lent today file book ledger area)
+  pub short-on : (o : Outcome) → o ≡ judged (lent today file (bookIn by book) ledger area) → o ≡ judged (lent today file book ledger area)
   short-on o f = f ∙ ap (λ (b : Text). judged (lent today file b ledger area)) all-of-it
 
 pub ruleset for-lend-index-buffer = (needs, full-room)

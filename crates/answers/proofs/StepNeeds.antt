@@ -1,6 +1,6 @@
 -- What each need of the steps of the check asks.
 -- Assumes nothing.
-use mathlib.Core.Path.{_≡_, refl, sym, ap, _∙_, subst}
+use mathlib.Core.Path.{_≡_, refl, sym, ap, _∙_}
 use mathlib.Core.Bool.{Bool, true, false, cond}
 use mathlib.Core.List.{List, [], _∷_}
 use Prim.Native.Nat.{ℕ, zero, suc, _*_, _/_, _≤_, _<_}
@@ -24,15 +24,16 @@ use Rattle.ledger.specs.declared.Validity.{Validity as LedgerValidity}
 use Rattle.ledger.specs.declared.Validity.the-variants as the-ledger
 use Rattle.ledger.proofs.EventLaws.{among-in}
 use Rattle.ledger.specs.Ledger.{ledgerOk, liveIn, validOf as ledgerValid}
-use Rattle.rules.specs.Seen.{Setting}
-use Rattle.rules.specs.Findings.{Finding, findingsOf, areaAfter}
+use Rattle.rules.specs.Findings.{Finding, areaAfter}
 use Rattle.rules.specs.Firsts.{firstsOf, indexOf, over, canBuild, builtIn}
 use Rattle.rules.proofs.CleanLaws.{clean-file}
 use Rattle.rules.proofs.OverLaws.{over-taken, length-over, index-size}
 use Rattle.rules.proofs.SizeLaws.{blocks-size, capacity}
+use Rattle.rules.specs.declared.By.{By}
 use Rattle.rules.specs.declared.Judged.{Judged}
 use Rattle.rules.specs.declared.Judged.the-variants.{Done, TooMany}
 use Rattle.rules.specs.Judged.{findingsBy, judgedOf, judgedArea}
+use Rattle.rules.specs.Look.{bookIn}
 use Rattle.rules.proofs.SettingLaws.{setting-is}
 use Rattle.answers.specs.declared.steps.Tally.{Tally}
 use Rattle.answers.specs.declared.Answer.{Answer}
@@ -84,8 +85,8 @@ module _ (today : ℕ) (file book ledger area : Text) (v : LedgerValidity) (ev :
       go false p r = rw p
 
   module _ (n : ℕ) (z : v ≡ the-ledger.Sound n) where
-    pub ledger-ready : (q : Sections) → Sound book q → length file ≤ 5000000 → Ready (lent today file book ledger area) q n
-    ledger-ready q s h = record { book = s; short = h; ledger = ledger-says n z .0; live-is = ledger-says n z .1 }
+    pub ledger-ready : (q : Sections) → Sound book q → length file ≤ 5000000 → Ready (lent today file book ledger area) (record { today = today; sections = q; live = n })
+    ledger-ready q s h = record { today-is = refl; book = s; short = h; ledger = ledger-says n z .0; live-is = ledger-says n z .1 }
 
     pub ledger-on : (o : Outcome) → o ≡ afterLedger (lent today file book ledger area) → o ≡ afterBook (lent today file book ledger area)
     unfolding afterBook
@@ -143,33 +144,33 @@ module _ (file : Text) (right : shapeOf file ≡ Right) (short : length file ≤
   can k size = rw (le-leb (length file) 5000000 short, le-leb (length (firstsOf file)) 96154 few, le-leb (length (firstsOf file)) k (within k size))
 
 -- the bytes start with the book
-module _ (today : ℕ) (file bytes ledger area : Text) (q : Sections) (live : ℕ) (ready : Ready (lent today file (take (q .end) bytes) ledger area) q live) where
-  by-look-up : findingsBy today file bytes q ledger live ≡ findings (lent today file (take (q .end) bytes) ledger area)
+module _ (today : ℕ) (file bytes ledger area : Text) (by : By) (ready : Ready (lent today file (bookIn by bytes) ledger area) by) where
+  by-look-up : findingsBy file bytes by ledger ≡ findings (lent today file (bookIn by bytes) ledger area)
   unfolding findingsBy findings settingOf
-  by-look-up = ap (λ (s : Setting). findingsOf s file) (setting-is today bytes q ledger live (ready .book) (ready .ledger) (ready .live-is))
+  by-look-up = rw (setting-is by bytes ledger (ready .book) (ready .ledger) (ready .live-is), ready .today-is)
 
-  judged-is : shapeOf file ≡ Right → (k : ℕ) → length file ≤ 52 * k → (j : Judged) → j ≡ judgedOf today file bytes q ledger live k → j ≡ Done (length (firstsOf file)) (length (findings (lent today file (take (q .end) bytes) ledger area))) (howMany (isKind IN) (recs file))
+  judged-is : shapeOf file ≡ Right → (k : ℕ) → length file ≤ 52 * k → (j : Judged) → j ≡ judgedOf file bytes by ledger k → j ≡ Done (length (firstsOf file)) (length (findings (lent today file (bookIn by bytes) ledger area))) (howMany (isKind IN) (recs file))
   unfolding judgedOf
   judged-is right k size j e = e ∙ rw (can file right (ready .short) k size, by-look-up)
 
 -- judge_into
-module _ (today : ℕ) (file bytes ledger area : Text) (j : Judged) (q : Sections) (live k : ℕ) (ej : j ≡ judgedOf today file bytes q ledger live k) (size : length file ≤ 52 * k) (right : shapeOf file ≡ Right) (ready : Ready (lent today file (take (q .end) bytes) ledger area) q live) where
-  pub tally-is : (b n m : ℕ) → j ≡ Done b n m → tally b n m ≡ tallyOf (lent today file (take (q .end) bytes) ledger area)
+module _ (today : ℕ) (file bytes ledger area : Text) (j : Judged) (by : By) (k : ℕ) (ej : j ≡ judgedOf file bytes by ledger k) (size : length file ≤ 52 * k) (right : shapeOf file ≡ Right) (ready : Ready (lent today file (bookIn by bytes) ledger area) by) where
+  pub tally-is : (b n m : ℕ) → j ≡ Done b n m → tally b n m ≡ tallyOf (lent today file (bookIn by bytes) ledger area)
   unfolding tallyOf notImmunized
   tally-is b n m z =
-      let e : Done b n m ≡ Done (length (firstsOf file)) (length (findings (lent today file (take (q .end) bytes) ledger area))) (howMany (isKind IN) (recs file)) = sym z ∙ judged-is today file bytes ledger area q live ready right k size j ej in
+      let e : Done b n m ≡ Done (length (firstsOf file)) (length (findings (lent today file (bookIn by bytes) ledger area))) (howMany (isKind IN) (recs file)) = sym z ∙ judged-is today file bytes ledger area by ready right k size j ej in
       let eb : b ≡ length (firstsOf file) = cc in
-      let en : n ≡ length (findings (lent today file (take (q .end) bytes) ledger area)) = cc in
+      let en : n ≡ length (findings (lent today file (bookIn by bytes) ledger area)) = cc in
       let em : m ≡ howMany (isKind IN) (recs file) = cc in
       rw (eb, en, em)
 
-  pub tally-never : (t : Tally) → j ≡ TooMany → t ≡ tallyOf (lent today file (take (q .end) bytes) ledger area)
-  tally-never t z = clash (cc (judged-is today file bytes ledger area q live ready right k size j ej))
+  pub tally-never : (t : Tally) → j ≡ TooMany → t ≡ tallyOf (lent today file (bookIn by bytes) ledger area)
+  tally-never t z = clash (cc (judged-is today file bytes ledger area by ready right k size j ej))
 
-module _ (today : ℕ) (file bytes ledger area : Text) (q : Sections) (live : ℕ) where
-  pub tally-area : (area′ : Text) (k : ℕ) → area′ ≡ judgedArea today file bytes q ledger live k area → length file ≤ 52 * k → shapeOf file ≡ Right → Ready (lent today file (take (q .end) bytes) ledger area) q live → area′ ≡ areaAfter area (findings (lent today file (take (q .end) bytes) ledger area))
+module _ (today : ℕ) (file bytes ledger area : Text) (by : By) where
+  pub tally-area : (area′ : Text) (k : ℕ) → area′ ≡ judgedArea file bytes by ledger k area → length file ≤ 52 * k → shapeOf file ≡ Right → Ready (lent today file (bookIn by bytes) ledger area) by → area′ ≡ areaAfter area (findings (lent today file (bookIn by bytes) ledger area))
   unfolding judgedArea
-  tally-area area′ k e size right ready = e ∙ rw (can file right (ready .short) k size, by-look-up today file bytes ledger area q live ready)
+  tally-area area′ k e size right ready = e ∙ rw (can file right (ready .short) k size, by-look-up today file bytes ledger area by ready)
 
 -- what a tally says
 module _ (today : ℕ) (file book ledger area : Text) (t : Tally) (et : t ≡ tallyOf (lent today file book ledger area)) where
@@ -192,7 +193,7 @@ module _ (today : ℕ) (file book ledger area : Text) (t : Tally) (et : t ≡ ta
       go [] e = refl
       go (y ∷ ys) e = absurd (omega arith)
 
-  module _ (room room′ : List ℕ) (er : room′ ≡ over (indexOf file) room) (size : length file ≤ 52 * length room) (right : shapeOf file ≡ Right) (q : Sections) (live : ℕ) (ready : Ready (lent today file book ledger area) q live) where
+  module _ (room room′ : List ℕ) (er : room′ ≡ over (indexOf file) room) (size : length file ≤ 52 * length room) (right : shapeOf file ≡ Right) (by : By) (ready : Ready (lent today file book ledger area) by) where
     index-long : length (indexOf file) ≡ t .blocks
     index-long = index-size file ∙ sym blocks-are
 
@@ -211,7 +212,7 @@ module _ (today : ℕ) (file book ledger area : Text) (t : Tally) (et : t ≡ ta
         let k = clean-file (settingOf (lent today file book ledger area)) file (no-findings f) in
         record { ok = ready .ledger; adds-once = k .adds-once; deletes-once = k .deletes-once; were-live = λ e i. among-in (liveIn ledger) e (k .deletes-live e i) }
 
-    judges : Judges file ledger live t room′
+    judges : Judges file ledger (by .live) t room′
     judges =
         record {
           part = room-part;
@@ -227,15 +228,15 @@ module _ (today : ℕ) (file book ledger area : Text) (t : Tally) (et : t ≡ ta
         }
 
 -- judge_into
-module _ (today : ℕ) (file bytes ledger area : Text) (j : Judged) (q : Sections) (live : ℕ) (room room′ : List ℕ) (ej : j ≡ judgedOf today file bytes q ledger live (length room)) (er : room′ ≡ builtIn file room) (size : length file ≤ 52 * length room) (right : shapeOf file ≡ Right) (ready : Ready (lent today file (take (q .end) bytes) ledger area) q live) where
-  pub tally-judges : (b n m : ℕ) → j ≡ Done b n m → Judges file ledger live (tally b n m) room′
+module _ (today : ℕ) (file bytes ledger area : Text) (j : Judged) (by : By) (room room′ : List ℕ) (ej : j ≡ judgedOf file bytes by ledger (length room)) (er : room′ ≡ builtIn file room) (size : length file ≤ 52 * length room) (right : shapeOf file ≡ Right) (ready : Ready (lent today file (bookIn by bytes) ledger area) by) where
+  pub tally-judges : (b n m : ℕ) → j ≡ Done b n m → Judges file ledger (by .live) (tally b n m) room′
   unfolding builtIn
   tally-judges b n m z =
-      judges today file (take (q .end) bytes) ledger area (tally b n m) (tally-is today file bytes ledger area j q live (length room) ej size right ready b n m z) room room′
-      (er ∙ rw (can file right (ready .short) (length room) size)) size right q live ready
+      judges today file (bookIn by bytes) ledger area (tally b n m) (tally-is today file bytes ledger area j by (length room) ej size right ready b n m z) room room′
+      (er ∙ rw (can file right (ready .short) (length room) size)) size right by ready
 
-  pub never-judges : (t : Tally) → j ≡ TooMany → Judges file ledger live t room′
-  never-judges t z = clash (cc (judged-is today file bytes ledger area q live ready right (length room) size j ej))
+  pub never-judges : (t : Tally) → j ≡ TooMany → Judges file ledger (by .live) t room′
+  never-judges t z = clash (cc (judged-is today file bytes ledger area by ready right (length room) size j ej))
 
 pub ruleset for-judge-into = (needs, tally-is, tally-never, tally-area, tally-judges, never-judges)
 

@@ -10,15 +10,15 @@ use Rattle.house.specs.Members.{In, Distinct}
 use Rattle.lines.specs.Records.{IN, isKind, recs}
 use Rattle.lines.specs.Shape.{shapeOf}
 use Rattle.lines.specs.Sorted.{placesMost}
-use Rattle.book.specs.declared.Sections.{Sections}
 use Rattle.book.specs.Book.{Sound}
 use Rattle.ledger.specs.Ledger.{Event, ledgerOk, liveIn}
+use Rattle.rules.specs.declared.By.{By}
 use Rattle.rules.specs.Contexts.{contextsIn}
 use Rattle.rules.specs.Blocks.{eventsOf, adds, deletes}
 use Rattle.rules.specs.Firsts.{firstsOf, indexOf}
 use Rattle.answers.specs.declared.steps.Tally.{Tally}
 use Rattle.answers.specs.declared.Answer.the-variants.{Ledger}
-use Rattle.answers.specs.Answers.{Lent, Outcome, fileMost, findings, notImmunized, refused, shaped}
+use Rattle.answers.specs.Answers.{Lent, Outcome, fileMost, lent, findings, notImmunized, refused, shaped}
 
 -- room for a book and its hash table
 abbrev pub bookBuffer : ℕ
@@ -40,12 +40,17 @@ afterLedger x = shaped x (shapeOf (x .file))
 unfoldable pub afterBook : Lent → Outcome
 afterBook x = cond (not (ledgerOk (x .ledger))) (refused x Ledger) (afterLedger x)
 
--- the book has these sections, and the ledger so many live events
-pub record Ready (x : Lent) (q : Sections) (live : ℕ) : Type 0 where
-  pub book : Sound (x .book) q
+-- today is this day, the book has these sections, and the ledger so many live events
+pub record Ready (x : Lent) (by : By) : Type 0 where
+  pub today-is : by .today ≡ x .today
+  pub book : Sound (x .book) (by .sections)
   pub short : length (x .file) ≤ fileMost
   pub ledger : ledgerOk (x .ledger) ≡ true
-  pub live-is : live ≡ length (liveIn (x .ledger))
+  pub live-is : by .live ≡ length (liveIn (x .ledger))
+
+-- what is lent, today being the day that a file is judged by
+abbrev pub asLent : By → Text → Text → Text → Text → Lent
+asLent by file book ledger area = lent (by .today) file book ledger area
 
 abbrev pub tally : ℕ → ℕ → ℕ → Tally
 tally blocks found not-immunized = record { blocks = blocks; findings = found; «not_immunized» = not-immunized }

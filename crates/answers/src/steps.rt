@@ -6,6 +6,7 @@ use book::Sections;
 use dates::Date;
 use lines::MOST_PLACES;
 use lines::Shape;
+use rules::By;
 use rules::Judged;
 use rules::MOST_BYTES;
 ghost use mathlib.Core.Path.{_≡_};
@@ -16,8 +17,9 @@ ghost use Rattle.lines.specs.declared.Shape.the-variants.{Right};
 ghost use Rattle.lines.specs.Shape.{shapeOf};
 ghost use Rattle.book.specs.Book.{Sound};
 ghost use Rattle.rules.specs.Findings.{areaAfter};
+ghost use Rattle.rules.specs.Look.{bookIn};
 ghost use Rattle.answers.specs.Answers.{fileMost, lent, left, findings, roomed, judged, Gives};
-ghost use Rattle.answers.specs.Inside.{bookBuffer, blockLeast, shortFile, afterBook, afterLedger, tallyOf, Ready, Settling, Judges};
+ghost use Rattle.answers.specs.Inside.{bookBuffer, blockLeast, shortFile, afterBook, afterLedger, asLent, tallyOf, Ready, Settling, Judges};
 
 // Room for a book, which has 262,144 bytes at most, and its hash table, which has 65,536.
 const BOOK_BUFFER: usize = 327680;
@@ -35,24 +37,22 @@ struct Tally {
 // Judges a file of right shape, by a book and what follows it, be that its hash table or nothing: the findings go to their area, and the index
 // of the blocks to the front of a buffer.
 fn judge_into(
-    today: u32,
     file: &[u8],
     hashed: &[u8],
-    q: Sections,
+    by: By,
     ledger: &[u8],
-    live: usize,
     area: &mut [u8],
     buffer: &mut [u32],
 ) -> Tally
-    requires { ⌜ Ready (lent today (now file) (take (q .end) (now hashed)) (now ledger) (now area)) q live ⌝ }
+    requires { ⌜ Ready (asLent by (now file) (bookIn by (now hashed)) (now ledger) (now area)) by ⌝ }
     requires { ⌜ shapeOf (now file) ≡ Right ⌝ }
     requires { ⌜ length (now file) ≤ blockLeast * length (now buffer) ⌝ }
-    ensures { λ r. ⌜ r ≡ tallyOf (lent today (now (file .entry)) (take (q .end) (now (hashed .entry))) (now (ledger .entry)) (now (area .entry))) ⌝ }
+    ensures { λ r. ⌜ r ≡ tallyOf (asLent by (now (file .entry)) (bookIn by (now (hashed .entry))) (now (ledger .entry)) (now (area .entry))) ⌝ }
     ensures { λ _. ⌜ now (area .exit) ≡ areaAfter (now (area .entry))
-        (findings (lent today (now (file .entry)) (take (q .end) (now (hashed .entry))) (now (ledger .entry)) (now (area .entry)))) ⌝ }
-    ensures { λ r. ⌜ Judges (now (file .entry)) (now (ledger .entry)) live r (now (buffer .exit)) ⌝ }
+        (findings (asLent by (now (file .entry)) (bookIn by (now (hashed .entry))) (now (ledger .entry)) (now (area .entry)))) ⌝ }
+    ensures { λ r. ⌜ Judges (now (file .entry)) (now (ledger .entry)) (by .live) r (now (buffer .exit)) ⌝ }
 {
-    let j = rules::judge(today, file, hashed, q, ledger, live, buffer, area);
+    let j = rules::judge(file, hashed, by, ledger, buffer, area);
     match j {
         Judged::Done {
             blocks,
@@ -98,25 +98,23 @@ fn settle_blocks(
 
 // From FINDINGS on, by a book and what follows it, in a buffer for the index.
 fn judge_and_settle(
-    today: u32,
     file: &[u8],
     hashed: &[u8],
-    q: Sections,
+    by: By,
     ledger: &mut [u8],
-    live: usize,
     area: &mut [u8],
     buffer: &mut [u32],
 ) -> Answer
-    requires { ⌜ Ready (lent today (now file) (take (q .end) (now hashed)) (now ledger) (now area)) q live ⌝ }
+    requires { ⌜ Ready (asLent by (now file) (bookIn by (now hashed)) (now ledger) (now area)) by ⌝ }
     requires { ⌜ shapeOf (now file) ≡ Right ⌝ }
     requires { ⌜ length (now file) ≤ blockLeast * length (now buffer) ⌝ }
     ensures { λ r. ⌜ left r (now (ledger .exit)) (now (area .exit))
-        ≡ judged (lent today (now (file .entry)) (take (q .end) (now (hashed .entry))) (now (ledger .entry)) (now (area .entry))) ⌝ }
+        ≡ judged (asLent by (now (file .entry)) (bookIn by (now (hashed .entry))) (now (ledger .entry)) (now (area .entry))) ⌝ }
 {
-    let n = judge_into(today, file, hashed, q, ledger, live, area, buffer);
+    let n = judge_into(file, hashed, by, ledger, area, buffer);
     let findings = n.findings;
     if findings == 0 {
-        settle_blocks(file, ledger, live, buffer, n.blocks, n.not_immunized)
+        settle_blocks(file, ledger, by.live, buffer, n.blocks, n.not_immunized)
     } else {
         Answer::Findings(findings)
     }
@@ -124,122 +122,86 @@ fn judge_and_settle(
 
 // From FINDINGS on, by a book with its hash table. A file of right shape has no more blocks than can be sorted.
 fn lend_index_buffer(
-    today: u32,
     file: &[u8],
     hashed: &[u8],
-    q: Sections,
+    by: By,
     ledger: &mut [u8],
-    live: usize,
     area: &mut [u8],
 ) -> Answer
-    requires { ⌜ Ready (lent today (now file) (take (q .end) (now hashed)) (now ledger) (now area)) q live ⌝ }
+    requires { ⌜ Ready (asLent by (now file) (bookIn by (now hashed)) (now ledger) (now area)) by ⌝ }
     requires { ⌜ shapeOf (now file) ≡ Right ⌝ }
     ensures { λ r. ⌜ left r (now (ledger .exit)) (now (area .exit))
-        ≡ judged (lent today (now (file .entry)) (take (q .end) (now (hashed .entry))) (now (ledger .entry)) (now (area .entry))) ⌝ }
+        ≡ judged (asLent by (now (file .entry)) (bookIn by (now (hashed .entry))) (now (ledger .entry)) (now (area .entry))) ⌝ }
 {
     let mut buffer = [0u32; MOST_PLACES];
-    judge_and_settle(today, file, hashed, q, ledger, live, area, &mut buffer)
+    judge_and_settle(file, hashed, by, ledger, area, &mut buffer)
 }
 
 // From FINDINGS on, in a buffer for the book with its hash table.
 fn judge_by_hash(
-    today: u32,
     file: &[u8],
     book: &[u8],
-    q: Sections,
+    by: By,
     ledger: &mut [u8],
-    live: usize,
     area: &mut [u8],
     buffer: &mut [u8],
 ) -> Answer
-    requires { ⌜ Ready (lent today (now file) (now book) (now ledger) (now area)) q live ⌝ }
+    requires { ⌜ Ready (asLent by (now file) (now book) (now ledger) (now area)) by ⌝ }
     requires { ⌜ shapeOf (now file) ≡ Right ⌝ }
     requires { ⌜ length (now buffer) ≡ bookBuffer ⌝ }
     ensures { λ r. ⌜ left r (now (ledger .exit)) (now (area .exit))
-        ≡ judged (lent today (now (file .entry)) (now (book .entry)) (now (ledger .entry)) (now (area .entry))) ⌝ }
+        ≡ judged (asLent by (now (file .entry)) (now (book .entry)) (now (ledger .entry)) (now (area .entry))) ⌝ }
 {
-    book::hash_book(book, q, buffer);
-    lend_index_buffer(today, file, buffer, q, ledger, live, area)
+    book::hash_book(book, by.sections, buffer);
+    lend_index_buffer(file, buffer, by, ledger, area)
 }
 
 // From FINDINGS on, of any file: by a copy of the book with its hash table.
-fn lend_book_buffer(
-    today: u32,
-    file: &[u8],
-    book: &[u8],
-    q: Sections,
-    ledger: &mut [u8],
-    live: usize,
-    area: &mut [u8],
-) -> Answer
-    requires { ⌜ Ready (lent today (now file) (now book) (now ledger) (now area)) q live ⌝ }
+fn lend_book_buffer(file: &[u8], book: &[u8], by: By, ledger: &mut [u8], area: &mut [u8]) -> Answer
+    requires { ⌜ Ready (asLent by (now file) (now book) (now ledger) (now area)) by ⌝ }
     requires { ⌜ shapeOf (now file) ≡ Right ⌝ }
     ensures { λ r. ⌜ left r (now (ledger .exit)) (now (area .exit))
-        ≡ judged (lent today (now (file .entry)) (now (book .entry)) (now (ledger .entry)) (now (area .entry))) ⌝ }
+        ≡ judged (asLent by (now (file .entry)) (now (book .entry)) (now (ledger .entry)) (now (area .entry))) ⌝ }
 {
     let mut buffer = [0u8; BOOK_BUFFER];
-    judge_by_hash(today, file, book, q, ledger, live, area, &mut buffer)
+    judge_by_hash(file, book, by, ledger, area, &mut buffer)
 }
 
 // From FINDINGS on, of a short file: by the book as it is, without a hash table.
-fn judge_short(
-    today: u32,
-    file: &[u8],
-    book: &[u8],
-    q: Sections,
-    ledger: &mut [u8],
-    live: usize,
-    area: &mut [u8],
-) -> Answer
-    requires { ⌜ Ready (lent today (now file) (now book) (now ledger) (now area)) q live ⌝ }
+fn judge_short(file: &[u8], book: &[u8], by: By, ledger: &mut [u8], area: &mut [u8]) -> Answer
+    requires { ⌜ Ready (asLent by (now file) (now book) (now ledger) (now area)) by ⌝ }
     requires { ⌜ shapeOf (now file) ≡ Right ⌝ }
     requires { ⌜ length (now file) ≤ shortFile ⌝ }
     ensures { λ r. ⌜ left r (now (ledger .exit)) (now (area .exit))
-        ≡ judged (lent today (now (file .entry)) (now (book .entry)) (now (ledger .entry)) (now (area .entry))) ⌝ }
+        ≡ judged (asLent by (now (file .entry)) (now (book .entry)) (now (ledger .entry)) (now (area .entry))) ⌝ }
 {
     let mut buffer = [0u32; FEW_PLACES];
-    judge_and_settle(today, file, book, q, ledger, live, area, &mut buffer)
+    judge_and_settle(file, book, by, ledger, area, &mut buffer)
 }
 
 // From FINDINGS on.
-fn from_findings(
-    today: u32,
-    file: &[u8],
-    book: &[u8],
-    q: Sections,
-    ledger: &mut [u8],
-    live: usize,
-    area: &mut [u8],
-) -> Answer
-    requires { ⌜ Ready (lent today (now file) (now book) (now ledger) (now area)) q live ⌝ }
+fn from_findings(file: &[u8], book: &[u8], by: By, ledger: &mut [u8], area: &mut [u8]) -> Answer
+    requires { ⌜ Ready (asLent by (now file) (now book) (now ledger) (now area)) by ⌝ }
     requires { ⌜ shapeOf (now file) ≡ Right ⌝ }
     ensures { λ r. ⌜ left r (now (ledger .exit)) (now (area .exit))
-        ≡ judged (lent today (now (file .entry)) (now (book .entry)) (now (ledger .entry)) (now (area .entry))) ⌝ }
+        ≡ judged (asLent by (now (file .entry)) (now (book .entry)) (now (ledger .entry)) (now (area .entry))) ⌝ }
 {
     if file.len() <= SHORT_FILE {
-        judge_short(today, file, book, q, ledger, live, area)
+        judge_short(file, book, by, ledger, area)
     } else {
-        lend_book_buffer(today, file, book, q, ledger, live, area)
+        lend_book_buffer(file, book, by, ledger, area)
     }
 }
 
 // From SHAPE on.
-fn from_shape(
-    today: u32,
-    file: &[u8],
-    book: &[u8],
-    q: Sections,
-    ledger: &mut [u8],
-    live: usize,
-    area: &mut [u8],
-) -> Answer
-    requires { ⌜ Ready (lent today (now file) (now book) (now ledger) (now area)) q live ⌝ }
+fn from_shape(file: &[u8], book: &[u8], by: By, ledger: &mut [u8], area: &mut [u8]) -> Answer
+    requires { ⌜ Ready (asLent by (now file) (now book) (now ledger) (now area)) by ⌝ }
     ensures { λ r. ⌜ left r (now (ledger .exit)) (now (area .exit))
-        ≡ afterLedger (lent today (now (file .entry)) (now (book .entry)) (now (ledger .entry)) (now (area .entry))) ⌝ }
+        ≡ afterLedger (asLent by (now (file .entry)) (now (book .entry)) (now (ledger .entry)) (now (area .entry))) ⌝ }
 {
     let s = lines::shape_of(file);
     match s {
-        Shape::Right => from_findings(today, file, book, q, ledger, live, area),
+        Shape::Right => from_findings(file, book, by, ledger, area),
         Shape::Fault { line, cause } => Answer::Shape { line, cause },
     }
 }
@@ -260,7 +222,14 @@ fn from_ledger(
 {
     let v = ledger::valid(ledger);
     match v {
-        ledger::Validity::Sound { live } => from_shape(today, file, book, q, ledger, live, area),
+        ledger::Validity::Sound { live } => {
+            let by = By {
+                today,
+                sections: q,
+                live,
+            };
+            from_shape(file, book, by, ledger, area)
+        }
         ledger::Validity::Malformed => Answer::Ledger,
     }
 }

@@ -1,8 +1,8 @@
 -- What each need of the public function asks: the blocks are gathered and put in order, and the walk is made again where two name one event.
 -- Assumes nothing.
 use mathlib.Core.Path.{_≡_, refl, sym, ap, _∙_}
-use mathlib.Core.Bool.{Bool, true, false, cond, _&&_}
-use mathlib.Core.List.{List, [], _∷_, _++_}
+use mathlib.Core.Bool.{Bool, true, false, cond}
+use mathlib.Core.List.{List, [], _++_}
 use Prim.Native.Nat.{ℕ, _-_, _*_, _≤_, _<_}
 use native.Mathlib.Omega.{arith}
 use borrow.Author.Needs.{needs}
@@ -10,19 +10,16 @@ use borrow.Author.Tests.{leb-true, le-leb, lt-leb}
 use lib.Dec.{leb}
 use lib.ListN.{length, take, drop, replicate, length-replicate}
 use lib.Seq.{take-all}
-use Rattle.house.specs.Text.{Text, howMany}
+use Rattle.house.specs.Text.{Text}
 use Rattle.house.proofs.Small.{both, clash}
-use Rattle.lines.specs.Records.{IN, isKind, recs}
 use Rattle.lines.specs.Events.{eventsAt, ascends}
 use Rattle.lines.specs.Sorted.{sortedAt, sortedApart}
-use Rattle.book.specs.declared.Sections.{Sections}
-use Rattle.ledger.specs.Ledger.{foundIn}
 use Rattle.rules_definitions.specs.Seen.{Setting}
-use Rattle.rules_definitions.specs.Findings.{Finding, findingsOf, areaAfter}
+use Rattle.rules_definitions.specs.Findings.{findingsOf, areaAfter}
 use Rattle.rules_definitions.proofs.AreaLaws.{area-again}
 use Rattle.rules_walk.specs.declared.Built.{Built}
 use Rattle.rules_walk.specs.declared.Built.the-variants.{Blocks, TooMany as NotBuilt}
-use Rattle.rules_walk.specs.Firsts.{firstsOf, indexOf, over, canBuild, builtIn, canSortFront, frontOf, frontIn}
+use Rattle.rules_walk.specs.Firsts.{indexOf, canBuild, builtIn, canSortFront, frontOf, frontIn}
 use Rattle.rules_walk.specs.Repeats.{repeatsIn, noteAll}
 use Rattle.rules_walk.proofs.IndexNeeds.{can-same, not-built, index-apart, index-built, index-front}
 use Rattle.rules.specs.declared.By.{By}
@@ -59,7 +56,7 @@ can-says area n h = let p = both (leb n 96154) (leb n (length area)) h in (leb-t
 -- judge_file
 module _ (file book : Text) (by : By) (ledger : Text) (room : List ℕ) (area : Text) (short : length file ≤ 5000000) where
   abbrev S : Setting
-  S = settingBy (by .today) book (by .sections) (foundIn ledger (by .live))
+  S = settingBy by book ledger
 
   module _ (w : Walked) (after : Text) (new : List ℕ) (g : WalkIs S file [] area room w after new) (b : Built) (e : b ≡ frontOf file new (w .blocks)) (index : List ℕ) (i : index ≡ frontIn file new (w .blocks)) where
     many : b ≡ NotBuilt → Judging file book by ledger room area TooMany index after
@@ -128,7 +125,7 @@ module _ (file book : Text) (by : By) (ledger : Text) (short : length file ≤ 5
     pub sorted-once : d ≡ true → Sorting file book by ledger w new left (Done n (w .findings) (w .«not_immunized»)) index left
     sorted-once t = record { judging = λ room area g. once file book by ledger room area short w left new g b e index i n d z t }
 
-    pub sorted-again : (findings : ℕ) (last : Text) → AgainIs (settingBy (by .today) book (by .sections) (foundIn ledger (by .live))) file (take n index) left findings last
+    pub sorted-again : (findings : ℕ) (last : Text) → AgainIs (settingBy by book ledger) file (take n index) left findings last
         → Sorting file book by ledger w new left (Done n findings (w .«not_immunized»)) index last
     sorted-again findings last a = record { judging = λ room area g. again file book by ledger room area short w left new g b e index i n d z findings last a }
 
@@ -136,7 +133,7 @@ pub ruleset for-judge-sorted = (needs, sorted-many, sorted-once, sorted-again)
 
 -- judge_file
 pub file-judged : (file book : Text) (by : By) (ledger : Text) (w : Walked) (room new : List ℕ) (area left : Text) (r : Judged) (index : List ℕ) (after : Text)
-    → WalkIs (settingBy (by .today) book (by .sections) (foundIn ledger (by .live))) file [] area room w left new
+    → WalkIs (settingBy by book ledger) file [] area room w left new
     → Sorting file book by ledger w new left r index after → Judging file book by ledger room area r index after
 file-judged file book by ledger w room new area left r index after g s = s .judging room area g
 
@@ -181,13 +178,13 @@ by-front s file places index n area r after e a = rw e at a
 pub ruleset for-walk-by = (needs, by-front)
 
 -- judge
-module _ (today : ℕ) (file book : Text) (q : Sections) (ledger : Text) (live : ℕ) (room : List ℕ) (area : Text) where
+module _ (file book : Text) (by : By) (ledger : Text) (room : List ℕ) (area : Text) where
   module _ (h : 5000000 < length file) where
     too-long : canBuild file (length room) ≡ false
     unfolding canBuild
     too-long = rw (lt-leb (length file) 5000000 h)
 
-    pub long-none : TooMany ≡ judgedOf today file book q ledger live (length room)
+    pub long-none : TooMany ≡ judgedOf file book by ledger (length room)
     unfolding judgedOf
     long-none = rw too-long
 
@@ -195,18 +192,18 @@ module _ (today : ℕ) (file book : Text) (q : Sections) (ledger : Text) (live :
     unfolding builtIn
     long-room = rw (too-long, lt-leb (length file) 5000000 h)
 
-    pub long-area : area ≡ judgedArea today file book q ledger live (length room) area
+    pub long-area : area ≡ judgedArea file book by ledger (length room) area
     unfolding judgedArea
     long-area = rw (too-long, lt-leb (length file) 5000000 h)
 
-  module _ (r : Judged) (index : List ℕ) (after : Text) (j : Judging file book (record { today = today; sections = q; live = live }) ledger room area r index after) where
-    pub judge-answer : r ≡ judgedOf today file book q ledger live (length room)
+  module _ (r : Judged) (index : List ℕ) (after : Text) (j : Judging file book by ledger room area r index after) where
+    pub judge-answer : r ≡ judgedOf file book by ledger (length room)
     judge-answer = j .answer
 
     pub judge-room : index ≡ builtIn file room
     judge-room = j .room-is
 
-    pub judge-area : after ≡ judgedArea today file book q ledger live (length room) area
+    pub judge-area : after ≡ judgedArea file book by ledger (length room) area
     judge-area = j .area-is
 
 pub ruleset for-judge = (needs, long-none, long-room, long-area, judge-answer, judge-room, judge-area)

@@ -8,7 +8,6 @@ use borrow.Author.Needs.{needs}
 use lib.ListN.{length, set}
 use Rattle.house.specs.Text.{Text}
 use Rattle.lines_fields.specs.Marks.{marksAt}
-use Rattle.ledger.specs.Ledger.{foundIn}
 use Rattle.rules_definitions.specs.Seen.{Setting, Seen}
 use Rattle.rules_definitions.specs.Findings.{fieldsFindings}
 use Rattle.rules.specs.declared.State.{State}
@@ -48,12 +47,12 @@ module _ (s : Setting) (file table area₀ : Text) (old : List ℕ) (at : ℕ) (
 
 -- once it is read and judged
 module _ (file book ledger : Text) (by : By) (table area₀ : Text) (old : List ℕ) (at : ℕ) (st : State) (found : ℕ) (area : Text) (firsts : List ℕ) (n : ℕ)
-    (g : Gathering (settingBy (by .today) book (by .sections) (foundIn ledger (by .live))) file table area₀ old at st found area firsts n) (m : List ℕ) (r : length m ≡ 30)
+    (g : Gathering (settingBy by book ledger) file table area₀ old at st found area firsts n) (m : List ℕ) (r : length m ≡ 30)
     (short : length file ≤ 5000000) (l : at < length file) (m2 : List ℕ) (e : m2 ≡ marksAt file at) (y : Here) (i : HereIs file at st table ledger (by .live) y)
     (after : Text) (c : ℕ) (j : (s : Setting) (v : Seen) → Told file m2 y book by s v → kept c after ≡ keep (fieldsFindings s (y .n) v 1 (length (v .line .fields))) (kept found area))
     (k : c ≤ found + lineMost) (st2 : State) (z : st2 ≡ advanced file m2 st y) (f : Bool) (b : f ≡ y .facts .inb && not (y .facts .joined)) where
   abbrev S : Setting
-  S = settingBy (by .today) book (by .sections) (foundIn ledger (by .live))
+  S = settingBy by book ledger
 
   abbrev was : Turn
   was = record { at = at; st = st; count = found; first = false }
@@ -68,11 +67,11 @@ module _ (file book ledger : Text) (by : By) (table area₀ : Text) (old : List 
   walk-falls = gather-falls S file table area₀ old at st found area firsts n g l false next after turned
 
   module _ (size : length after ≡ length area) where
-    pub walk-other : f ≡ false → Gathering (settingBy (by .today) book (by .sections) (foundIn ledger (by .live))) file table area₀ old (y .next) st2 c after firsts n
+    pub walk-other : f ≡ false → Gathering (settingBy by book ledger) file table area₀ old (y .next) st2 c after firsts n
     walk-other h = gather-other S file table area₀ old at st found area firsts n g l false next after turned size h
 
     pub walk-first : (new : List ℕ) → f ≡ true → new ≡ set firsts n at
-        → Gathering (settingBy (by .today) book (by .sections) (foundIn ledger (by .live))) file table area₀ old (y .next) st2 c after new (n + 1)
+        → Gathering (settingBy by book ledger) file table area₀ old (y .next) st2 c after new (n + 1)
     walk-first new h w = gather-first S file table area₀ old at st found area firsts n g l false next after turned size new h w
 
 pub ruleset for-walk = (

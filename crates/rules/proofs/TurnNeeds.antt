@@ -15,7 +15,6 @@ use Rattle.lines_fields.proofs.LineLaws.{line-is, at-text}
 use Rattle.lines.specs.Records.{Rec, recOf, recs}
 use Rattle.lines.proofs.PartLaws.{recs-on}
 use Rattle.ledger.specs.Ledger.{foundIn}
-use Rattle.rules_definitions.specs.Blocks.{begins}
 use Rattle.rules_definitions.specs.Seen.{Setting, Seen, seenAt}
 use Rattle.rules_definitions.specs.Findings.{Finding, fieldsFindings}
 use Rattle.rules.specs.declared.State.{State}
@@ -26,7 +25,7 @@ use Rattle.rules.specs.Inside.{kept, keep}
 use Rattle.rules.specs.Look.{settingBy}
 use Rattle.rules.specs.Fields.{Looks, lineMost, Told}
 use Rattle.rules.specs.Under.{withRepeated, lineFindingsBy}
-use Rattle.rules.specs.Walk.{ReadIn, lineRec, Holds, LookAt, hereWith, HereIs}
+use Rattle.rules.specs.Walk.{ReadIn, lineRec, Holds, hereWith, HereIs}
 use Rattle.rules.specs.Advance.{advanced}
 use Rattle.rules.specs.Turned.{Turn, TurnAt, restOf, TurnIs}
 use Rattle.rules.proofs.KeepLaws.{keep-append}
@@ -110,7 +109,7 @@ module _ (file : Text) (m₀ : List ℕ) (t : Turn) (g : TurnAt file m₀ t) whe
 
     module _ (table ledger : Text) (by : By) (y : Here) (i : HereIs file (t .at) (t .st) table ledger (by .live) y) (book : Text) where
       abbrev S : Setting
-      S = settingBy (by .today) book (by .sections) (foundIn ledger (by .live))
+      S = settingBy by book ledger
 
       looks : Looks by book S
       unfolding settingBy
@@ -123,7 +122,7 @@ module _ (file : Text) (m₀ : List ℕ) (t : Turn) (g : TurnAt file m₀ t) whe
       pub turned-is : (area after : Text) (c : ℕ) (st2 : State) (f : Bool)
           → ((s : Setting) (v : Seen) → Told file m y book by s v → kept c after ≡ keep (fieldsFindings s (y .n) v 1 (length (v .line .fields))) (kept (t .count) area))
           → c ≤ t .count + lineMost → st2 ≡ advanced file m (t .st) y → f ≡ y .facts .inb && not (y .facts .joined)
-          → TurnIs (settingBy (by .today) book (by .sections) (foundIn ledger (by .live))) file table t area (record { at = y .next; st = st2; count = c; first = f }) after
+          → TurnIs (settingBy by book ledger) file table t area (record { at = y .next; st = st2; count = c; first = f }) after
       unfolding advanced
       turned-is area after c st2 f j k z b =
           record {

@@ -8,8 +8,6 @@ use lib.Dec.{leb}
 use lib.ListN.{length}
 use Rattle.house.specs.Text.{Text, howMany}
 use Rattle.lines.specs.Records.{IN, isKind, recs}
-use Rattle.book.specs.declared.Sections.{Sections}
-use Rattle.ledger.specs.Ledger.{foundIn}
 use Rattle.rules_definitions.specs.Seen.{Setting}
 use Rattle.rules_definitions.specs.Findings.{Finding, findingsOf, areaAfter}
 use Rattle.rules_walk.specs.Firsts.{fileMost, firstsOf, indexOf, over, canBuild, builtIn}
@@ -20,21 +18,21 @@ use Rattle.rules.specs.declared.Judged.the-variants.{Done, TooMany}
 use Rattle.rules.specs.Look.{settingBy}
 use Rattle.rules.specs.Under.{findingsUnder}
 
--- the findings of a file, by what look-ups find in the book's sections and in the first n slots of the ledger
-unfoldable pub findingsBy : ℕ → Text → Text → Sections → Text → ℕ → List Finding
-findingsBy today file book q ledger n = findingsOf (settingBy today book q (foundIn ledger n)) file
+-- the findings of a file, by what look-ups find in the book's sections and in the first slots of the ledger, those said to be live
+unfoldable pub findingsBy : Text → Text → By → Text → List Finding
+findingsBy file book by ledger = findingsOf (settingBy by book ledger) file
 
 -- the answer, in a room of so many places
-unfoldable pub judgedOf : ℕ → Text → Text → Sections → Text → ℕ → ℕ → Judged
-judgedOf today file book q ledger n room =
-    cond (canBuild file room) (Done (length (firstsOf file)) (length (findingsBy today file book q ledger n)) (howMany (isKind IN) (recs file))) TooMany
+unfoldable pub judgedOf : Text → Text → By → Text → ℕ → Judged
+judgedOf file book by ledger room =
+    cond (canBuild file room) (Done (length (firstsOf file)) (length (findingsBy file book by ledger)) (howMany (isKind IN) (recs file))) TooMany
 
 -- the findings area after: as it was where the file is too long; where its blocks are too many for the room, with all findings but those of
 -- rule 15
-unfoldable pub judgedArea : ℕ → Text → Text → Sections → Text → ℕ → ℕ → Text → Text
-judgedArea today file book q ledger n room area =
-    cond (canBuild file room) (areaAfter area (findingsBy today file book q ledger n))
-    (cond (leb (length file) fileMost) (areaAfter area (findingsUnder (settingBy today book q (foundIn ledger n)) file [])) area)
+unfoldable pub judgedArea : Text → Text → By → Text → ℕ → Text → Text
+judgedArea file book by ledger room area =
+    cond (canBuild file room) (areaAfter area (findingsBy file book by ledger))
+    (cond (leb (length file) fileMost) (areaAfter area (findingsUnder (settingBy by book ledger) file [])) area)
 
 -- what a walk over a file finds by a table of the blocks whose events were named before: how many findings, and the area after
 pub record FoundIs (s : Setting) (file table area : Text) (r : ℕ) (after : Text) : Type 0 where
@@ -58,11 +56,11 @@ pub record AgainIs (s : Setting) (file : Text) (index : List ℕ) (area : Text) 
 
 -- what judging a file that is not too long leaves: its answer, the room and the area
 pub record Judging (file book : Text) (by : By) (ledger : Text) (room : List ℕ) (area : Text) (r : Judged) (index : List ℕ) (after : Text) : Type 0 where
-  pub answer : r ≡ judgedOf (by .today) file book (by .sections) ledger (by .live) (length room)
+  pub answer : r ≡ judgedOf file book by ledger (length room)
   pub room-is : index ≡ builtIn file room
-  pub area-is : after ≡ judgedArea (by .today) file book (by .sections) ledger (by .live) (length room) area
+  pub area-is : after ≡ judgedArea file book by ledger (length room) area
 
 -- the same, once a walk has gathered its blocks in the room and left the area so
 pub record Sorting (file book : Text) (by : By) (ledger : Text) (w : Walked) (new : List ℕ) (left : Text) (r : Judged) (index : List ℕ) (after : Text) : Type 0 where
-  pub judging : (room : List ℕ) (area : Text) → WalkIs (settingBy (by .today) book (by .sections) (foundIn ledger (by .live))) file [] area room w left new
+  pub judging : (room : List ℕ) (area : Text) → WalkIs (settingBy by book ledger) file [] area room w left new
       → Judging file book by ledger room area r index after

@@ -1,13 +1,24 @@
--- What a file is judged by, as look-ups in a book of any bytes and sections say it. Of bytes that start with a well-formed book they say what
--- it lists (proofs/SettingLaws).
+-- What a file is judged by, as look-ups in the sections of a book of any bytes and in the first slots of a ledger of any bytes say it. Of bytes
+-- that start with a well-formed book, by its own sections, they say what it lists, and of a well-formed ledger, by the number of its live
+-- events, what is live (proofs/SettingLaws).
 -- Assumes nothing.
-use Prim.Native.Nat.{ℕ}
-use mathlib.Core.Bool.{Bool}
+use lib.ListN.{take}
 use Rattle.house.specs.Text.{Text}
-use Rattle.book.specs.declared.Sections.{Sections}
-use Rattle.ledger.specs.Ledger.{Event}
+use Rattle.ledger.specs.Ledger.{foundIn}
 use Rattle.rules_definitions.specs.Seen.{Setting}
 use Rattle.book.specs.LookUp.{knownBy, inForceBy}
+use Rattle.rules.specs.declared.By.{By}
 
-unfoldable pub settingBy : ℕ → Text → Sections → (Event → Bool) → Setting
-settingBy today s q live = record { profile = 0; today = today; known = knownBy s q; in-force = inForceBy s q; live = live }
+-- the book that bytes start with, by its sections
+abbrev pub bookIn : By → Text → Text
+bookIn by bytes = take (by .sections .end) bytes
+
+unfoldable pub settingBy : By → Text → Text → Setting
+settingBy by book ledger =
+    record {
+      profile = 0;
+      today = by .today;
+      known = knownBy book (by .sections);
+      in-force = inForceBy book (by .sections);
+      live = foundIn ledger (by .live);
+    }

@@ -1,7 +1,6 @@
 -- The findings of a file by a table that notes the blocks whose events were named before: by that of the file's own index they are the file's
 -- findings (proofs/UnderLaws), and by one that is empty all of them but for rule 15.
 -- Assumes nothing.
-use Prim.Native.Nat.{ℕ}
 use mathlib.Core.Bool.{Bool, _&&_}
 use mathlib.Core.List.{List}
 use lib.ListN.{length}

@@ -19,10 +19,10 @@ pub use rules_walk::keep;
 pub use rules_walk::part_of;
 
 // What a file is judged by, beside the book and the ledger: today, where the kinds of the book stand, and how many events are live.
-struct By {
-    today: u32,
-    sections: Sections,
-    live: usize,
+pub struct By {
+    pub today: u32,
+    pub sections: Sections,
+    pub live: usize,
 }
 
 // What is known at a line beside its marks, as `Seen` has it: its kind, its number, its place; where it and the next line start; its IP's ULI

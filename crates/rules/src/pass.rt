@@ -6,7 +6,6 @@ use crate::line::judge_line;
 use crate::look::look;
 use crate::walk::advance;
 use crate::walk::start;
-use book::Sections;
 use lines_fields::MARKS;
 use rules_fields::Facts;
 use rules_walk::Built;
@@ -15,7 +14,6 @@ ghost use mathlib.Core.Path.{_≡_};
 ghost use mathlib.Core.Bool.{not, _&&_};
 ghost use Prim.Native.Nat.{_*_, _≤_};
 ghost use lib.ListN.{length, take, replicate};
-ghost use Rattle.ledger.specs.Ledger.{foundIn};
 ghost use Rattle.rules_walk.specs.Firsts.{fileMost, builtIn};
 ghost use Rattle.rules.specs.Look.{settingBy};
 ghost use Rattle.rules.specs.Judged.{shortFile, judgedOf, judgedArea, WalkIs, AgainIs, Judging, Sorting};
@@ -50,7 +48,7 @@ fn walk(
     area: &mut [u8],
 ) -> Walked
     requires { ⌜ length (now file) ≤ fileMost ⌝ }
-    ensures { λ r. ⌜ WalkIs (settingBy (by .today) (now (book .entry)) (by .sections) (foundIn (now (ledger .entry)) (by .live)))
+    ensures { λ r. ⌜ WalkIs (settingBy by (now (book .entry)) (now (ledger .entry)))
         (now (file .entry)) (now (table .entry)) (now (area .entry)) (now (firsts .entry)) r (now (area .exit)) (now (firsts .exit)) ⌝ }
 {
     let mut marks = [0u32; MARKS];
@@ -102,7 +100,7 @@ fn walk_noted(
     requires { ⌜ length (now file) ≤ fileMost ⌝ }
     requires { ⌜ now table ≡ replicate (length (now table)) 0 ⌝ }
     requires { ⌜ length (now file) ≤ 16 * length (now table) ⌝ }
-    ensures { λ r. ⌜ AgainIs (settingBy (by .today) (now (book .entry)) (by .sections) (foundIn (now (ledger .entry)) (by .live)))
+    ensures { λ r. ⌜ AgainIs (settingBy by (now (book .entry)) (now (ledger .entry)))
         (now (file .entry)) (now (index .entry)) (now (area .entry)) r (now (area .exit)) ⌝ }
 {
     rules_walk::note_repeats(file, index, table);
@@ -120,7 +118,7 @@ fn walk_short(
     area: &mut [u8],
 ) -> usize
     requires { ⌜ length (now file) ≤ shortFile ⌝ }
-    ensures { λ r. ⌜ AgainIs (settingBy (by .today) (now (book .entry)) (by .sections) (foundIn (now (ledger .entry)) (by .live)))
+    ensures { λ r. ⌜ AgainIs (settingBy by (now (book .entry)) (now (ledger .entry)))
         (now (file .entry)) (now (index .entry)) (now (area .entry)) r (now (area .exit)) ⌝ }
 {
     let mut table = [0u8; SHORT_TABLE];
@@ -137,7 +135,7 @@ fn walk_long(
     area: &mut [u8],
 ) -> usize
     requires { ⌜ length (now file) ≤ fileMost ⌝ }
-    ensures { λ r. ⌜ AgainIs (settingBy (by .today) (now (book .entry)) (by .sections) (foundIn (now (ledger .entry)) (by .live)))
+    ensures { λ r. ⌜ AgainIs (settingBy by (now (book .entry)) (now (ledger .entry)))
         (now (file .entry)) (now (index .entry)) (now (area .entry)) r (now (area .exit)) ⌝ }
 {
     let mut table = [0u8; LONG_TABLE];
@@ -155,7 +153,7 @@ fn walk_by(
     area: &mut [u8],
 ) -> usize
     requires { ⌜ length (now file) ≤ fileMost ⌝ }
-    ensures { λ r. ⌜ AgainIs (settingBy (by .today) (now (book .entry)) (by .sections) (foundIn (now (ledger .entry)) (by .live)))
+    ensures { λ r. ⌜ AgainIs (settingBy by (now (book .entry)) (now (ledger .entry)))
         (now (file .entry)) (take n (now (places .entry))) (now (area .entry)) r (now (area .exit)) ⌝ }
 {
     let index = front(places, n);
@@ -222,27 +220,20 @@ fn judge_file(
 
 // Judges a file: counts its findings, writes those that fit in the area, and leaves the index of its blocks in the room lent.
 pub fn judge(
-    today: u32,
     file: &[u8],
     book: &[u8],
-    sections: Sections,
+    by: By,
     ledger: &[u8],
-    live: usize,
     room: &mut [u32],
     area: &mut [u8],
 ) -> Judged
-    ensures { λ r. ⌜ r ≡ judgedOf today (now (file .entry)) (now (book .entry)) sections (now (ledger .entry)) live (length (now (room .entry))) ⌝ }
+    ensures { λ r. ⌜ r ≡ judgedOf (now (file .entry)) (now (book .entry)) by (now (ledger .entry)) (length (now (room .entry))) ⌝ }
     ensures { λ _. ⌜ now (room .exit) ≡ builtIn (now (file .entry)) (now (room .entry)) ⌝ }
-    ensures { λ _. ⌜ now (area .exit) ≡ judgedArea today (now (file .entry)) (now (book .entry)) sections (now (ledger .entry)) live
+    ensures { λ _. ⌜ now (area .exit) ≡ judgedArea (now (file .entry)) (now (book .entry)) by (now (ledger .entry))
         (length (now (room .entry))) (now (area .entry)) ⌝ }
 {
     if MOST_BYTES < file.len() {
         return Judged::TooMany;
     }
-    let by = By {
-        today,
-        sections,
-        live,
-    };
     judge_file(file, book, by, ledger, room, area)
 }

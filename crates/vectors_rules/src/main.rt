@@ -1,6 +1,7 @@
 // Judges the files of its standard input, and prints what it finds. A case is two parts: a file, and a stream of three: four bytes each for
 // today, how many blocks there is room for and how long the findings area is; a book; a ledger.
 use book::Sections;
+use rules::By;
 use rules::Judged;
 
 fn main() {
@@ -69,7 +70,12 @@ fn by_ledger(file: &[u8], numbers: &[u8], book: &[u8], q: Sections, ledger: &[u8
     let v = ledger::valid(ledger);
     match v {
         ledger::Validity::Sound { live } => {
-            lend(file, numbers, book, q, ledger, live);
+            let by = By {
+                today: vectors_stream::number_at(numbers, 0),
+                sections: q,
+                live,
+            };
+            lend(file, numbers, book, by, ledger);
         }
         ledger::Validity::Malformed => {
             io::write_all(1, b"ledger\n");
@@ -77,10 +83,10 @@ fn by_ledger(file: &[u8], numbers: &[u8], book: &[u8], q: Sections, ledger: &[u8
     }
 }
 
-fn lend(file: &[u8], numbers: &[u8], book: &[u8], q: Sections, ledger: &[u8], live: usize) {
+fn lend(file: &[u8], numbers: &[u8], book: &[u8], by: By, ledger: &[u8]) {
     let mut buffer = [0u32; 130];
     let mut area = [238u8; 600];
-    judged(file, numbers, book, q, ledger, live, &mut buffer, &mut area);
+    judged(file, numbers, book, by, ledger, &mut buffer, &mut area);
 }
 
 // Judges with as much of the buffer and of the area as the case says.
@@ -88,13 +94,11 @@ fn judged(
     file: &[u8],
     numbers: &[u8],
     book: &[u8],
-    q: Sections,
+    by: By,
     ledger: &[u8],
-    live: usize,
     buffer: &mut [u32],
     area: &mut [u8],
 ) {
-    let today = vectors_stream::number_at(numbers, 0);
     let blocks = house::wide(vectors_stream::number_at(numbers, 4));
     let bytes = house::wide(vectors_stream::number_at(numbers, 8));
     if buffer.len() < blocks {
@@ -105,12 +109,10 @@ fn judged(
     }
     let from = 0;
     let j = rules::judge(
-        today,
         file,
         book,
-        q,
+        by,
         ledger,
-        live,
         &mut buffer[from..blocks],
         &mut area[from..bytes],
     );

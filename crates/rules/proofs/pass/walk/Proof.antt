@@ -4,14 +4,13 @@ use Rattle.rules.proofs.PassNeeds.{for-walk, walk-numbers, walk-read, w
 use mathlib.Core.Path.{_≡_, _∙_}
 use Prim.Native.Nat.{_-_}
 use lib.ListN.{length}
-use Rattle.ledger.specs.Ledger.{foundIn}
 use Rattle.rules.specs.Look.{settingBy}
 use Rattle.rules.proofs.GatherNeeds.{Gathering}
 use Rattle.rules.proofs.pass.walk.Statement.{statement}
 use Rattle.rules.proofs.pass.walk.Tie as tie
 
 abbrev Inv-loop : tie.InvT-loop
-Inv-loop file table ledger book by firsts₀ area₀ marks₀ st₀ at₀ findings₀ blocks₀ firsts area marks st at findings blocks = (length marks ≡ 30) × Gathering (settingBy (by .today) book (by .sections) (foundIn ledger (by .live))) file table area₀ firsts₀ at st findings area firsts blocks
+Inv-loop file table ledger book by firsts₀ area₀ marks₀ st₀ at₀ findings₀ blocks₀ firsts area marks st at findings blocks = (length marks ≡ 30) × Gathering (settingBy by book ledger) file table area₀ firsts₀ at st findings area firsts blocks
 
 abbrev μ-loop : tie.MeasureT-loop
 μ-loop file table ledger book by firsts₀ area₀ marks₀ st₀ at₀ findings₀ blocks₀ firsts area marks st at findings blocks = length file - at
