@@ -1,7 +1,5 @@
 // Texts by the range of their bytes. No byte has a branch of its own, so that many are looked at at a time.
 ghost use mathlib.Core.Path.{_≡_};
-ghost use mathlib.Core.Bool.{cond};
-ghost use lib.Dec.{eqb, ltb};
 ghost use Rattle.house.specs.Text.{all, within, isPadded};
 ghost use Rattle.house.specs.Numbers.{lesserOf, greaterOf};
 ghost use Rattle.house.specs.Inside.{risesAt, noRise};

@@ -10,13 +10,12 @@ use lib.ListN.{length, take, getD}
 use lib.Seq.{take-suc, take-take}
 use Rattle.house.specs.declared.Order.{Order}
 use Rattle.house.specs.declared.Order.the-variants.{Less, Same, More}
-use Rattle.house.specs.Text.{Text, those, orderOf, isLess, isSame, below, same}
-use Rattle.house.proofs.Small.{clash}
+use Rattle.house.specs.Text.{Text, orderOf, below, same}
 use Rattle.house.proofs.Facts.{of-true}
 use Rattle.house.proofs.OrderAlgebra.{flip, flipped, same-eq}
 use Rattle.house.proofs.Decisions.{less-below, below-trans}
-use Rattle.lines_places.specs.Sorted.{putIn, place}
-use Rattle.lines_places.specs.Inside.{Lt, Le, All, Over, Under, Upto, Up, Asc}
+use Rattle.lines_places.specs.Sorted.{place}
+use Rattle.lines_places.specs.Inside.{Lt, Le, Over, Under, Upto, Up, Asc}
 use Rattle.lines_places.proofs.Ranks.{le-of}
 use Rattle.lines_places.proofs.Order.{all-take, over-down, place-append, place-snoc, put-last, upto-take, upto-le, under-lt}
 use Rattle.ledger.specs.Ledger.{isAmong, less}

@@ -16,7 +16,6 @@ use Rattle.dates.specs.declared.Dated.{Dated}
 use Rattle.dates.specs.declared.Dated.the-variants.{Day, NoDate}
 use Rattle.house.specs.Text.{Text, all, those, adjacent, chained, below, within, run, digits, isPadded}
 use Rattle.dates.specs.Dates.{datedOf}
-use Rattle.house.proofs.Suffix.{drop-here, drop-past}
 use Rattle.dates.proofs.DateLaws.{dated-true, dated-false}
 use Rattle.ledger.specs.declared.Validity.{Validity}
 use Rattle.ledger.specs.declared.Validity.the-variants.{Sound, Malformed}

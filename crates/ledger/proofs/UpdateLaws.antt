@@ -1,6 +1,6 @@
 -- What each need of the function that makes an update asks, and what an update leaves of a well-formed ledger.
 -- Assumes nothing.
-use mathlib.Core.Path.{_≡_, refl, sym, ap, ap₂, _∙_, subst}
+use mathlib.Core.Path.{_≡_, refl, sym, ap, ap₂, _∙_}
 use mathlib.Core.Bool.{Bool, true, false, not, cond, _||_}
 use mathlib.Core.List.{List, [], _∷_, _++_, map}
 use Prim.Native.Nat.{ℕ, zero, suc, _+_, _*_, _-_, _/_, _≤_, _<_}
@@ -8,14 +8,13 @@ use native.Mathlib.Nat.{add-zero, not-suc-le-zero, le-of-suc-le-suc}
 use native.Mathlib.Omega.{arith}
 use borrow.Author.Needs.{needs}
 use borrow.Author.Tests.{le-leb, lt-leb}
-use lib.Dec.{leb}
 use lib.ListN.{length, take, drop, getD, replicate, length-map, length-append, take-append-drop}
 use lib.Seq.{take-at, take-add, take-all, take-take, getD-take, length-take-le}
 use Rattle.house.specs.Text.{Text, those, howMany, joined, below, same}
 use Rattle.lines_places.specs.Events.{eventAt, eventsAt, ascends}
 use Rattle.lines_places.specs.Sorted.{putIn, place}
-use Rattle.lines_places.specs.Inside.{Asc, Up}
-use Rattle.lines_places.proofs.Order.{up-asc, asc-those, length-place, place-sorted}
+use Rattle.lines_places.specs.Inside.{Up}
+use Rattle.lines_places.proofs.Order.{up-asc, asc-those, place-sorted}
 use Rattle.lines_places.proofs.SortedLaws.{keys-placed}
 use Rattle.ledger.specs.Ledger.{slotsIn, chop, slots, isLiveSlot, ledgerOk, liveIn, isAmong, slotsAsked, plus, less, eventsAfter, liveSlot, ledgerWith}
 use Rattle.ledger.specs.Updates.{whole, slotsFor, without, putAfter, mergedUpTo, keptIn, roomed, merged, filled, updated}

@@ -7,11 +7,10 @@ use crate::slots::slot;
 use dates::Date;
 use dates::Dated;
 ghost use mathlib.Core.Path.{_≡_};
-ghost use mathlib.Core.Bool.{true, false};
 ghost use mathlib.Core.List.{[]};
-ghost use Prim.Native.Nat.{_+_, _/_, _%_, _<_, _≤_};
+ghost use Prim.Native.Nat.{_+_, _/_, _<_};
 ghost use lib.ListN.{length, getD, drop};
-ghost use Rattle.ledger.specs.Ledger.{slotBytes, eventBytes, slots, eventForm, isLiveSlot, isFreeSlot, slotForm, slotFollows, validOf};
+ghost use Rattle.ledger.specs.Ledger.{slotBytes, eventBytes, slots, eventForm, isFreeSlot, slotForm, slotFollows, validOf};
 ghost use Rattle.ledger.specs.Inside.{soundAt, soundFrom};
 
 // Whether 37 bytes are an event: a ULI of nine digits, a date, a padded vaccine code.

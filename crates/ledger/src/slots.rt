@@ -4,7 +4,7 @@ use house::Key;
 use house::wide;
 ghost use mathlib.Core.Path.{_≡_};
 ghost use mathlib.Core.List.{[], _∷_};
-ghost use Prim.Native.Nat.{_+_, _*_, _-_, _/_, _<_};
+ghost use Prim.Native.Nat.{_/_, _<_};
 ghost use lib.ListN.{length, getD, set};
 ghost use Rattle.lines_places.specs.Events.{eventAt};
 ghost use Rattle.ledger.specs.Ledger.{slotBytes, slots, isLiveSlot, liveSlot};

@@ -6,10 +6,9 @@ use mathlib.Core.List.{List, [], _∷_}
 use Prim.Native.Nat.{ℕ, zero, suc, _+_, _-_, _≤_, _<_}
 use native.Mathlib.Nat.{zero-add, add-zero}
 use native.Mathlib.Omega.{arith}
-use borrow.Author.Tests.{eq-eqb, le-leb, lt-leb, lt-ltb, le-ltb, leb-true, ltb-true, ltb-false, eqb-true}
+use borrow.Author.Tests.{le-leb, lt-leb, lt-ltb, le-ltb, leb-true, ltb-true, ltb-false}
 use lib.Dec.{eqb, ltb, leb}
-use lib.ListN.{length, getD, take, drop, length-drop, List·getD-eq-default}
-use lib.Seq.{drop-drop, take-take}
+use lib.ListN.{length, getD, drop, length-drop, List·getD-eq-default}
 use Rattle.house.specs.Text.{Text, digits}
 use Rattle.house.proofs.Small.{both}
 use Rattle.lines_fields.specs.declared.Span.{Span}
@@ -17,8 +16,7 @@ use Rattle.lines_fields.specs.Lines.{pipe, lineOf, textLen, lengthen, fi
 use Rattle.lines_fields.specs.Inside.{part}
 use Rattle.lines_fields.specs.Marks.{judgedText, judgedOf, marksFrom, marksOf, marksAt, isMarked, markedField, judgedIn, span, judgedSpan}
 use Rattle.lines_fields.proofs.LineLaws.{text-is, text-le}
-use Rattle.lines_fields.proofs.FieldLaws.{lengthen-length, start-zero, fields-le}
-use Rattle.lines_fields.proofs.CutLaws.{part-empty, part-drop}
+use Rattle.lines_fields.proofs.FieldLaws.{lengthen-length, fields-le}
 use Rattle.lines_fields.proofs.PositionLaws.{field-step, cut-there, field-on}
 
 -- THE TEXT AS JUDGED: of no bytes none is judged, no more is judged than is there, and of digits all

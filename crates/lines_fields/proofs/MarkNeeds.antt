@@ -1,9 +1,9 @@
 -- What each need of `mark_pipes`, `mark`, `read_line` and `count_marked` asks: how the marks of a line are written, and its fields counted.
 -- Assumes nothing.
 use mathlib.Core.Path.{_≡_, refl, sym, ap, subst, _∙_}
-use mathlib.Core.Bool.{Bool, true, false, cond}
+use mathlib.Core.Bool.{Bool, true, false}
 use mathlib.Core.List.{List, [], _∷_}
-use Prim.Native.Nat.{ℕ, zero, suc, _+_, _-_, _≤_, _<_}
+use Prim.Native.Nat.{ℕ, suc, _+_, _-_, _≤_, _<_}
 use native.Mathlib.Nat.{zero-add, add-zero, add-sub-cancel-left}
 use native.Mathlib.Omega.{arith}
 use borrow.Author.Needs.{needs}
@@ -13,10 +13,9 @@ use lib.ListN.{length, getD, take, drop, set, length-set, length-drop, List·get
 use lib.Seq.{getD-set-same, getD-set-other, ext-getD}
 use Rattle.house.specs.Text.{Text}
 use Rattle.house.proofs.Suffix.{drop-here}
-use Rattle.lines_fields.specs.declared.LineAt.{LineAt}
-use Rattle.lines_fields.specs.Lines.{pipe, lineOf, textLen, LineIs, fieldsOf, fieldsLen}
+use Rattle.lines_fields.specs.Lines.{pipe, lineOf, textLen, fieldsOf, fieldsLen}
 use Rattle.lines_fields.specs.Inside.{Marked, Marking}
-use Rattle.lines_fields.specs.Marks.{markCount, markBytes, marksOf, marksAt, marksIn, markedCount}
+use Rattle.lines_fields.specs.Marks.{markCount, marksOf, marksAt, marksIn, markedCount}
 use Rattle.lines_fields.proofs.LineLaws.{text-is, text-le, at-end}
 use Rattle.lines_fields.proofs.FieldLaws.{lengthen-length, start-zero, fields-few}
 use Rattle.lines_fields.proofs.MarkLaws.{marks-length, mark-at, mark-count, fields-past}

@@ -14,7 +14,7 @@ use Rattle.rules_definitions.specs.Forms.{text, table, formOf, isJudged, isOpti
 use Rattle.rules_definitions.specs.Seen.{Setting, Seen}
 use Rattle.rules_definitions.specs.Blocks.{adds, changes, deletes}
 use Rattle.rules_definitions.specs.Codes.{isSite, isMethod, bookKind, codeIn, isKnown, dayIsSound, isInForce}
-use Rattle.rules_definitions.specs.Rules.{Place, at, formPlaces, Numbered, numbered, rule1, rule2, rule3, rule4, rule5, rule6, rule7, rule8, rule9, rule10, rule11, rule12, rule13, rule14, rule15, rule16, rule17, rule18, asks, afterToday, beforeBirth, sameLot, rules, rulesIn, rulesOf, isPlaced, rulesAt, brokenBy, brokenAt}
+use Rattle.rules_definitions.specs.Rules.{Place, formPlaces, Numbered, numbered, rule1, rule2, rule3, rule4, rule5, rule6, rule7, rule8, rule9, rule10, rule11, rule12, rule13, rule14, rule15, rule16, rule17, rule18, asks, afterToday, beforeBirth, sameLot, rules, rulesIn, rulesOf, isPlaced, rulesAt, brokenBy, brokenAt}
 use Rattle.rules.specs.Inside.{some}
 use Rattle.rules_forms.specs.FieldLeaves.{lowest}
 use Rattle.rules_fields.specs.Fields.{rules4and5Of}

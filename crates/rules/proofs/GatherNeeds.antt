@@ -29,7 +29,6 @@ use Rattle.rules.specs.Turned.{Turn, TurnAt, restOf, TurnIs}
 use Rattle.rules.specs.Judged.{FoundIs, WalkIs}
 use Rattle.rules.proofs.KeepLaws.{keep-all}
 use Rattle.rules.proofs.RuleLaws.{count-reverse}
-use Rattle.rules.proofs.SeenLaws as seen
 use Rattle.rules.proofs.StartLaws.{holds-start}
 
 -- the findings still to come: at the start those of the file, at the end none

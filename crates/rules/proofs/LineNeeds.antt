@@ -6,7 +6,7 @@ use mathlib.Core.List.{List, []}
 use Prim.Native.Nat.{ℕ, _+_, _-_, _*_, _^_, _≤_, _<_}
 use native.Mathlib.Omega.{arith}
 use borrow.Author.Needs.{needs}
-use lib.ListN.{length, getD, drop}
+use lib.ListN.{length, drop}
 use Rattle.house.specs.Text.{Text}
 use Rattle.lines_fields.specs.Lines.{lineOf}
 use Rattle.lines_fields.specs.Marks.{marksAt, markedCount}

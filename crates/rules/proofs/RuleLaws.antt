@@ -1,11 +1,10 @@
 -- The later rules of an II and an IE, each at its field.
 -- Assumes nothing.
-use mathlib.Core.Path.{_≡_, refl, ap, _∙_}
+use mathlib.Core.Path.{_≡_, refl}
 use mathlib.Core.Bool.{Bool, true, false, not, cond, _&&_, _||_}
 use mathlib.Core.List.{List, [], _∷_, _++_, reverse, reverse-cons}
-use Prim.Native.Nat.{ℕ, suc, _+_}
+use Prim.Native.Nat.{suc, _+_}
 use native.Mathlib.Omega.{arith}
-use lib.Dec.{eqb}
 use Rattle.house.specs.Text.{any, all, howMany}
 use Rattle.house.proofs.Members.{count-append}
 use Rattle.lines.specs.Records.{Rec, II, IE}

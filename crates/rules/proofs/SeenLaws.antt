@@ -3,7 +3,7 @@
 use mathlib.Core.Path.{_≡_, refl, sym, ap, _∙_, subst}
 use mathlib.Core.Bool.{Bool, true, false, not, cond, _&&_}
 use mathlib.Core.List.{List, [], _∷_, _++_, reverse}
-use Prim.Native.Nat.{ℕ, _+_, _≤_, _<_}
+use Prim.Native.Nat.{ℕ, _≤_, _<_}
 use native.Mathlib.Nat.{add-zero}
 use native.Mathlib.Omega.{arith}
 use lib.Dec.{T, eqb}
@@ -19,17 +19,17 @@ use Rattle.lines_fields.specs.Inside.{part}
 use Rattle.lines_fields.proofs.LineLaws.{line-is, at-text, at-past}
 use Rattle.lines_fields.proofs.FieldLaws.{start-zero}
 use Rattle.lines_fields.proofs.MarkLaws.{judged-nil, mark-at, marked-judged, span-is}
-use Rattle.lines.specs.Records.{Rec, II, IE, isKind, recOf, recs}
+use Rattle.lines.specs.Records.{Rec, II, isKind, recOf, recs}
 use Rattle.lines.specs.Inside.{whole}
 use Rattle.lines.proofs.PartLaws.{ended-inside, whole-step}
 use Rattle.rules_definitions.specs.Forms.{fieldIn, text}
 use Rattle.rules_definitions.specs.Contexts.{noRec}
-use Rattle.rules_definitions.specs.Blocks.{isInBlock, sameEvent, joins, nearestOf, blockIn, openAfter, joinsOpen, beforeOpen, beforeBlock, begins}
+use Rattle.rules_definitions.specs.Blocks.{isInBlock, sameEvent, joins, nearestOf, blockIn, openAfter, beforeOpen, beforeBlock, begins}
 use Rattle.rules_definitions.proofs.EventLaws.{named}
 use Rattle.rules_forms.proofs.FieldLaws.{text-is}
 use Rattle.rules.specs.declared.State.{State}
 use Rattle.rules.specs.declared.Here.{Here}
-use Rattle.rules.specs.Walk.{partOf, lineRec, recIn, linesBefore, OpenIs, Holds, joinsOpenBy, blockBy, factsBy, vaccineBy, dayBy, hereWith, HereIs}
+use Rattle.rules.specs.Walk.{partOf, lineRec, recIn, linesBefore, Holds, joinsOpenBy, blockBy, factsBy, vaccineBy, dayBy, hereWith, HereIs}
 use Rattle.rules.proofs.WalkLaws.{no-recs, recs-next, back-step, before-step}
 
 -- THE OPEN BLOCK

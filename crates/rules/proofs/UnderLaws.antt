@@ -4,7 +4,7 @@
 use mathlib.Core.Path.{_≡_, refl, sym, ap, _∙_}
 use mathlib.Core.Bool.{Bool, true, false, _&&_}
 use mathlib.Core.Logic.{inl, inr}
-use mathlib.Core.List.{List, [], _∷_, _++_}
+use mathlib.Core.List.{List, [], _∷_}
 use Prim.Native.Nat.{ℕ, _*_, _≤_}
 use native.Mathlib.Omega.{arith}
 use lib.ListN.{length, replicate, length-append}
@@ -21,7 +21,7 @@ use Rattle.rules_walk.specs.Repeats.{repeatsIn, isNoted, noteAll}
 use Rattle.rules_walk.proofs.PassLaws.{place-passed}
 use Rattle.rules_walk.proofs.OnceLaws.{once-new}
 use Rattle.rules_walk.proofs.NotedLaws.{noted-repeated}
-use Rattle.rules.specs.Under.{withRepeated, repeatedBy, seenBy, lineFindingsBy, findingsUnder}
+use Rattle.rules.specs.Under.{withRepeated, repeatedBy, lineFindingsBy, findingsUnder}
 use Rattle.rules.proofs.RepeatLaws.{alone-findings}
 
 -- lists put together of the same, or of no longer ones

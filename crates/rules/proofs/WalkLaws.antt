@@ -1,8 +1,8 @@
 -- Lines of parts of a file, one line on.
 -- Assumes nothing.
-use mathlib.Core.Path.{_≡_, refl, sym, ap, _∙_}
+use mathlib.Core.Path.{_≡_, refl, _∙_}
 use mathlib.Core.Bool.{Bool, true, false}
-use mathlib.Core.List.{List, [], _∷_, _++_, reverse, reverse-append}
+use mathlib.Core.List.{[], _∷_, _++_, reverse, reverse-append}
 use Prim.Native.Nat.{ℕ, _-_, _≤_, _<_}
 use native.Mathlib.Omega.{arith}
 use borrow.Author.Tests.{ltb-true, ltb-false}
@@ -11,8 +11,8 @@ use lib.ListN.{length, take, drop, length-drop}
 use lib.Seq.{take-all}
 use Rattle.house.specs.Text.{Text}
 use Rattle.lines_fields.specs.declared.LineAt.{LineAt}
-use Rattle.lines_fields.specs.Lines.{LineIs, linesOf}
-use Rattle.lines.specs.Records.{Rec, isKind, recordOf, recOf, recs}
+use Rattle.lines_fields.specs.Lines.{LineIs}
+use Rattle.lines.specs.Records.{isKind, recordOf, recOf, recs}
 use Rattle.lines.specs.Inside.{whole}
 use Rattle.lines_fields.specs.Inside.{part}
 use Rattle.lines_fields.proofs.CutLaws.{part-empty, part-start, part-split}

@@ -11,7 +11,7 @@ use borrow.Author.Needs.{needs}
 use borrow.Author.Tests.{leb-true}
 use lib.Dec.{ltb, leb}
 use lib.ListN.{length, getD, drop}
-use Rattle.house.specs.Text.{Text, all, within, run, digits, number, numberFrom, isDigit}
+use Rattle.house.specs.Text.{Text, all, run, digits, number, numberFrom, isDigit}
 use Rattle.house.proofs.Small.{both}
 use Rattle.house.proofs.Suffix.{drop-here, drop-past}
 use Rattle.rules_definitions.specs.Forms.{countForm}

@@ -1,9 +1,9 @@
 -- What each need of `sort_front` and `sort_index` asks; and the index of a file, once its first places are put in order.
 -- Assumes nothing.
-use mathlib.Core.Path.{_≡_, refl, sym, ap, ap₂, _∙_}
-use mathlib.Core.Bool.{Bool, true, false, cond, _&&_}
-use mathlib.Core.List.{List, [], _∷_, _++_}
-use Prim.Native.Nat.{ℕ, _+_, _-_, _≤_, _<_}
+use mathlib.Core.Path.{_≡_, sym, ap, ap₂, _∙_}
+use mathlib.Core.Bool.{Bool, true, false}
+use mathlib.Core.List.{List, _++_}
+use Prim.Native.Nat.{ℕ, _≤_, _<_}
 use native.Mathlib.Omega.{arith}
 use borrow.Author.Needs.{needs}
 use borrow.Author.Tests.{le-leb, lt-leb}
@@ -12,9 +12,8 @@ use lib.Seq.{take-at, drop-at, length-take-le}
 use Rattle.house.specs.Text.{Text}
 use Rattle.lines_places.specs.Events.{eventsAt, ascends}
 use Rattle.lines_places.specs.Sorted.{canSort, sortedAt, sortedApart}
-use Rattle.rules_walk.specs.declared.Built.{Built}
 use Rattle.rules_walk.specs.declared.Built.the-variants.{Blocks, TooMany}
-use Rattle.rules_walk.specs.Firsts.{firstsOf, indexOf, over, canBuild, builtOf, builtIn, canSortFront, frontOf, frontIn}
+use Rattle.rules_walk.specs.Firsts.{firstsOf, indexOf, over, canBuild, builtIn, canSortFront, frontOf, frontIn}
 use Rattle.rules_walk.proofs.OverLaws.{over-front, length-over, index-size}
 
 -- sort_front

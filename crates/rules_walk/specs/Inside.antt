@@ -3,15 +3,15 @@
 -- Assumes nothing.
 use Prim.Native.Nat.{ℕ, suc, _+_, _<_}
 use mathlib.Core.Path.{_≡_}
-use mathlib.Core.Bool.{not, cond, _&&_}
-use mathlib.Core.List.{List, [], _∷_, _++_, map}
+use mathlib.Core.Bool.{cond}
+use mathlib.Core.List.{List, [], _∷_, map}
 use lib.ListN.{length, drop}
 use Rattle.house.specs.Text.{Text, those}
 use Rattle.lines_fields.specs.Lines.{lineOf, lineLen}
-use Rattle.lines.specs.Records.{Rec, IE, isKind, recOf, recs}
+use Rattle.lines.specs.Records.{Rec, recOf}
 use Rattle.rules_definitions.specs.Contexts.{contextsFrom}
-use Rattle.rules_definitions.specs.Blocks.{isInBlock, joins, nearestOf, openAfter, begins}
-use Rattle.rules_walk.specs.Firsts.{startAfter, isFirst, startOf, firstsOf}
+use Rattle.rules_definitions.specs.Blocks.{begins}
+use Rattle.rules_walk.specs.Firsts.{startAfter, isFirst, startOf}
 
 -- the line that starts at a position
 unfoldable pub recAt : Text → ℕ → Rec
