@@ -1,7 +1,7 @@
 -- In force: what each need of `digit`, `eight_digits`, `end_number`, `lasts`, `in_force`, `standing` and `look_up` asks.
 -- Assumes nothing.
 use mathlib.Core.Path.{_≡_, refl, sym, ap, _∙_}
-use mathlib.Core.Bool.{Bool, true, false, not, _&&_, and-false}
+use mathlib.Core.Bool.{Bool, true, false, not, _&&_, and-true, and-false}
 use mathlib.Core.List.{_++_}
 use Prim.Native.Nat.{ℕ, _+_, _-_, _*_, _≤_, _<_}
 use native.Mathlib.Omega.{arith}
@@ -54,11 +54,7 @@ module _ (n e d u : ℕ) (x : e ≡ n) where
   lasts-not h = rw (← x, lt-ltb e u h, and-false (leb d e))
 
   pub lasts-on : u ≤ e → leb d e ≡ leb d n && not (ltb n u)
-  lasts-on h = rw (← x, le-ltb e u h) (go (leb d e))
-    where
-      go : (b : Bool) → b ≡ b && true
-      go true = refl
-      go false = refl
+  lasts-on h = rw (← x, le-ltb e u h) (sym (and-true (leb d e)))
 
 pub ruleset for-lasts = (needs, lasts-not, lasts-on)
 

@@ -2,7 +2,7 @@
 -- Assumes nothing.
 use mathlib.Core.Path.{_≡_, refl, sym, ap, _∙_}
 use mathlib.Core.Logic.{_⊎_, inl, inr}
-use mathlib.Core.Bool.{Bool, true, false, cond, _&&_}
+use mathlib.Core.Bool.{Bool, true, false, cond, _&&_, and-false}
 use mathlib.Core.List.{[]}
 use Prim.Native.Nat.{ℕ, _+_, _*_, _<_}
 use native.Mathlib.Omega.{arith}
@@ -39,11 +39,7 @@ module _ (k : ℕ) (x : Text) (e : Entry) where
 
   pub not-code : (codeOf e ≡ x → ⊥) → isEntry k x e ≡ false
   unfolding isEntry
-  not-code n = rw (not-same (codeOf e) x n) (go (eqb (e .kind) k))
-    where
-      go : (b : Bool) → (b && false) ≡ false
-      go true = refl
-      go false = refl
+  not-code n = rw (not-same (codeOf e) x n) (and-false (eqb (e .kind) k))
 
 -- a look-up in the section, by hash and by binary search
 module _ (s book : Text) (q : Sections) (k n : ℕ) (sec : Section s book q k n) (x : Text) where

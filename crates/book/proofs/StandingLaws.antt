@@ -2,7 +2,7 @@
 -- `find` and `look_up` say of a code.
 -- Assumes nothing.
 use mathlib.Core.Path.{_≡_, refl, sym, ap, _∙_, subst}
-use mathlib.Core.Bool.{Bool, true, false, cond, _&&_}
+use mathlib.Core.Bool.{Bool, true, false, cond, _&&_, and-true}
 use mathlib.Core.List.{[]}
 use Prim.Native.Nat.{ℕ, _+_}
 use native.Mathlib.Omega.{arith}
@@ -112,11 +112,7 @@ module _ (s : Text) (q : Sections) (k : ℕ) (code : Text) where
 
   pub until-none : (d : ℕ) → inForceUntilBy s q d 0 k code ≡ inForceBy s q d k code
   unfolding inForceUntilBy endedBy
-  until-none d = rw (ended-none (foundIn s q k code)) (go (inForceBy s q d k code))
-    where
-      go : (b : Bool) → (b && true) ≡ b
-      go true = refl
-      go false = refl
+  until-none d = rw (ended-none (foundIn s q k code)) (and-true (inForceBy s q d k code))
 
   module _ (d u : ℕ) (r : Standing) (e : r ≡ standingBy s q k code d u) where
     abbrev Told : Standing → Type 0

@@ -1,7 +1,7 @@
 -- Look-up in any bytes, by any sections: the entry that the hash of a code names is asked first, then a binary search goes on among the
--- entries of one kind, which all have the same width. What it says are three things of a code: that it is known, that it is in force on
--- a day, and that it ended before a day. For bytes that start with a valid book, by its own sections, they are what the book's entries say, whatever the hash table
--- (proofs/StandingLaws).
+-- entries of one kind, which all have the same width. What it says are three things of a code: that it is known, that it is in force on a
+-- day, and that it ended before a day. For bytes that start with a valid book, by its own sections, they are what the book's entries say,
+-- whatever the hash table (proofs/StandingLaws).
 -- Assumes nothing.
 use Prim.Native.Nat.{ℕ, zero, suc, _+_, _-_, _*_, _/_, _%_}
 use mathlib.Core.Bool.{Bool, true, false, not, cond, _&&_}

@@ -1,7 +1,7 @@
 -- What look-ups say of codes, as the functions on them need it.
 -- Assumes nothing.
-use mathlib.Core.Path.{_≡_, refl, sym, _∙_}
-use mathlib.Core.Bool.{Bool, true, false, not, cond, _&&_, _||_}
+use mathlib.Core.Path.{_≡_, sym, _∙_}
+use mathlib.Core.Bool.{true, false, not, _||_, and-true, and-false}
 use Prim.Native.Nat.{ℕ}
 use borrow.Author.Needs.{needs}
 use Rattle.house.specs.Text.{Text}
@@ -42,11 +42,7 @@ module _ (s : Text) (q : Sections) (k : ℕ) (a b : Text) (day : Day) (r : Stand
 
   pub later-in : r ≡ InForce → 0 ≡ rules4and5Of false (knownBy s q k (codeText k a b)) (isOut k (codeText k a b) s q day)
   unfolding rules4and5Of
-  later-in z = rw (in-force z .0, in-force z .1) (go (day .sound))
-    where
-      go : (x : Bool) → _≡_ {A = ℕ} 0 (cond (x && false) 5 0)
-      go true = refl
-      go false = refl
+  later-in z = rw (in-force z .0, in-force z .1, and-false (day .sound))
 
   pub rule5-out : r ≡ OutOfForce → day .sound ≡ true → 5 ≡ rules4and5Of false (knownBy s q k (codeText k a b)) (isOut k (codeText k a b) s q day)
   unfolding rules4and5Of
@@ -61,18 +57,10 @@ module _ (s : Text) (q : Sections) (k : ℕ) (a b : Text) (day : Day) (r : Stand
   pair-unknown z = rw (unknown z)
 
   pub pair-in : r ≡ InForce → false ≡ not (knownBy s q k (codeText k a b)) || isOut k (codeText k a b) s q day
-  pair-in z = rw (in-force z .0, in-force z .1) (go (day .sound))
-    where
-      go : (x : Bool) → false ≡ (x && false)
-      go true = refl
-      go false = refl
+  pair-in z = rw (in-force z .0, in-force z .1) (sym (and-false (day .sound)))
 
   pub pair-out : r ≡ OutOfForce → day .sound ≡ not (knownBy s q k (codeText k a b)) || isOut k (codeText k a b) s q day
-  pair-out z = rw (out z .0, out z .1) (go (day .sound))
-    where
-      go : (x : Bool) → x ≡ (x && true)
-      go true = refl
-      go false = refl
+  pair-out z = rw (out z .0, out z .1) (sym (and-true (day .sound)))
 
 pub ruleset for-known = (needs, known-when-unknown, known-when-out, known-when-in)
 

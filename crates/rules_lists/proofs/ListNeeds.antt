@@ -1,7 +1,7 @@
 -- What each need of the functions over the lines of a part asks.
 -- Assumes nothing.
 use mathlib.Core.Path.{_≡_, refl, sym, ap, _∙_}
-use mathlib.Core.Bool.{Bool, true, false, cond, _&&_, and-false}
+use mathlib.Core.Bool.{Bool, true, false, cond, and-true, and-false}
 use mathlib.Core.List.{List, []}
 use Prim.Native.Nat.{ℕ, _+_, _-_, _≤_, _<_}
 use native.Mathlib.Omega.{arith}
@@ -100,11 +100,7 @@ module _ (l t : Text) (k : ℕ) (d : k ≡ recordOf l) where
     pub lot-here : (y : Bool) → x ≡ true → y ≡ soundIn 4 (isRelaxed (recOf l)) 15 u → y ≡ lotIs t (recOf l)
     unfolding lotIs
     lot-here y h g =
-        rw (kind-is, ← d, eq-eqb k 4 z, ← sound-in 4 (recOf l) 15, text-is l 15, ← f, ← e, h, ← g) (go y)
-      where
-        go : (b : Bool) → b ≡ b && true
-        go true = refl
-        go false = refl
+        rw (kind-is, ← d, eq-eqb k 4 z, ← sound-in 4 (recOf l) 15, text-is l 15, ← f, ← e, h, ← g) (sym (and-true y))
 
 pub ruleset for-lot = (needs, lot-kind, lot-other, lot-here)
 
