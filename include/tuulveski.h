@@ -66,7 +66,8 @@ typedef struct {
  *
  * today     a number YYYYMMDD.
  * file      the submission; only read.
- * book      the code book; only read. It may be empty.
+ * book      the code book; only read. It may be empty. A code or pair that ended before today is in force for an II and its IE only
+ *           where II 5 is H, in changes and deletes too: an event added in time needs H once a code or pair of it has ended.
  * ledger    slots of 38 bytes. It alters only at answer 0, and is then the ledger to lend next time. A new ledger is all zeros,
  *           38 bytes for each event that it is to hold.
  * findings  an area of any length for findings. It alters only at answer 6: it gets as many whole findings from the start of the

@@ -1,6 +1,6 @@
-"""Document 01's forms and rules, written from the document alone: what a file that has the right shape breaks.
+"""Document 01's forms and rules with CR 1 of document 02, written from the documents alone: what a file that has the right shape breaks.
 
-How the document is read where it leaves a choice: docs/DECISIONS.md, R1 to R12."""
+How document 01 is read where it leaves a choice: docs/DECISIONS.md, R1 to R12."""
 import re
 
 from make import WIDTH, event, is_date, pad, read_entries, split_lines
@@ -119,9 +119,11 @@ class Book:
     def known(self, *code):
         return self.key(*code) in self.entries
 
-    def in_force(self, day, *code):
+    def in_force(self, record, today, *code):
+        """Whether a code or pair is in force for an II or IN with a sound date, and its IE or IA. CR 1: for an II, one whose end is before
+        today only if II 5 is H."""
         start, end = self.entries[self.key(*code)]
-        return start <= day <= end
+        return start <= record.date() <= end and (record.kind == "IN" or record[5] == b"H" or end >= today)
 
 
 def code_of(line, f):
@@ -134,12 +136,12 @@ def in_book(line, f, book):
     return line.given(f) and book.known(BOOK_KIND[line.kind, f], code_of(line, f))
 
 
-def pair_broken(line, f, kind, book):
+def pair_broken(line, f, kind, today, book):
     ii = line.head
     if not (in_book(line, f, book) and in_book(ii, 8, book)):
         return False
     pair = kind, ii[8], code_of(line, f)
-    return not book.known(*pair) or ii.date() is not None and not book.in_force(ii.date(), *pair)
+    return not book.known(*pair) or ii.date() is not None and not book.in_force(ii, today, *pair)
 
 
 def antigens(ii):
@@ -160,7 +162,7 @@ def broken(line, f, today, book, live, all_blocks):
             code = BOOK_KIND[kind, f], code_of(line, f)
             if not book.known(*code):
                 rules.append(4)
-            elif line.date() is not None and not book.in_force(line.date(), *code):
+            elif line.date() is not None and not book.in_force(line.head, today, *code):
                 rules.append(5)
     if f == 3 and kind in ("II", "IE", "IN", "IA") and line.ip.sound(3) and text != line.ip[3]:
         rules.append(6)
@@ -177,7 +179,7 @@ def broken(line, f, today, book, live, all_blocks):
             rules.append(9)
     if kind == "II" and f in (9, 10, 12, 13) and line.relaxed() and text == b"" and line.given({9: 10, 10: 9, 12: 13, 13: 12}[f]):
         rules.append(10)
-    if (kind, f) == ("II", 11) and pair_broken(line, f, 7, book) or (kind, f) == ("IE", 4) and pair_broken(line, f, 8, book):
+    if (kind, f) == ("II", 11) and pair_broken(line, f, 7, today, book) or (kind, f) == ("IE", 4) and pair_broken(line, f, 8, today, book):
         rules.append(11)
     if (kind, f) == ("IE", 4) and text in [e[4] for e in line.head.parts if e.number < line.number]:
         rules.append(12)

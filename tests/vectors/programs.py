@@ -1,7 +1,7 @@
 #!/usr/bin/env python3
 """What the program `check_file` is run on, and what it must print: one list of cases, which tests/program/run tries.
 
-What is printed is worked out from document 01, without the Rattle code: each case says why. usage, in the project's root:
+What is printed is worked out from documents 01 and 02, without the Rattle code: each case says why. usage, in the project's root:
 tests/vectors/programs.py: writes the stored example of the crate check_file (its stdin, stdout and data), which is the first case"""
 import os
 import sys
@@ -64,6 +64,11 @@ def book_of(size):
     return book
 
 
+def ended(day, *code):
+    """Book E in which the entry of a kind and code ends on a day."""
+    return b"".join(entry(*code, end=day) if e == entry(*code) else e for e in BOOK_E)
+
+
 def live(n):
     """The slots of n live events, none of which a file here names."""
     return b"".join(b"\x01" + b"%09d" % i + b"20200101" + b"V".ljust(20) for i in range(n))
@@ -110,6 +115,9 @@ case("all-counts", "a block that adds (20220903), one that changes (X), one that
 case("no-patient", "no patient at all is allowed, and needs no slot and no book", TODAY + file_of(IV, IH, IF), numbers(0), codes=None, ledger=None)
 case("crlf", "lines that end in CR LF", TODAY + file_of(*FILE_E, end=b"\r\n"), numbers(0, added=1))
 case("one-crlf", "one line that ends in CR LF, among others that end in LF", TODAY + E.replace(b"\n", b"\r\n", 1), numbers(0, added=1))
+case("retired-historical", "CR 1: a manufacturer that ended yesterday, where II 5 is H", TODAY + E.replace(b"|A||", b"|A|H|"), numbers(0, added=1),
+     codes=ended(b"20220929", 4, b"GSK"))
+case("retired-today", "CR 1: a manufacturer that ends today", TODAY + E, numbers(0, added=1), codes=ended(b"20220930", 4, b"GSK"))
 case("last-slot", "199 live events and one free slot", TODAY + E, numbers(0, added=1), ledger=live(199) + FREE)
 
 # 1, DATE: a first line of another form than eight digits and LF is no date
@@ -196,6 +204,8 @@ case("findings-crlf", "P2 with lines that end in CR LF", TODAY + with_line(6, b"
 case("P3", "P3: count 2 on line 7", TODAY + with_line(7, b"|1|", b"|2|"), found((6, 8, 13)))
 case("P4", "P4: File E again on the ledger that it left", TODAY + E, found((4, 4, 16), (6, 4, 16)), ledger=X)
 case("P10", "P10: PO with LA: II 9 rule 9 only", TODAY + with_line(4, b"|IM|", b"|PO|"), found((4, 9, 9)))
+case("retired", "CR 1: a manufacturer that ended yesterday, where the second II 5 is H", TODAY + with_line(6, b"|A||", b"|A|H|"), found((4, 14, 5)),
+     codes=ended(b"20220929", 4, b"GSK"))
 UNKNOWN = found(*[(n, f, 4) for n, fields in ((4, (8, 11, 13, 14)), (5, (4,)), (6, (8, 11, 13, 14)), (7, (4,))) for f in fields])
 case("empty-book", "an empty codes.bin: every code of the book is unknown", TODAY + E, UNKNOWN, codes=b"")
 case("missing-book", "a missing codes.bin is an empty one", TODAY + E, UNKNOWN, codes=None)

@@ -2,7 +2,7 @@
 """Writes the vectors of the program crates/vectors_rules: files to judge (stdin) and what must be printed of them (stdout).
 
 Each vector is a valid file with an edit, and says by hand what must be found; `document.findings` must find the same. Every (kind, field, rule)
-that document 01 allows is reached. usage, in the project's root:
+that document 01 allows is reached. CR 1 of document 02 is tried on each kind of code and pair. usage, in the project's root:
 tests/vectors/rules.py: writes them
 tests/vectors/rules.py PROGRAM..: holds a batch program (tests/differential/README.md) against them, as whole checks"""
 import struct
@@ -187,7 +187,7 @@ VECTORS = [
     ("a vaccine that the book has not: a block of its own, no pair judged", E.set(6, 8, "TESTX"), "6/8/4"),
     ("case counts in a code", E.set(6, 8, "testv"), "6/8/4"),
     ("a vaccine that has ended", E.ended("20220831", 1, b"TESTV"), "4/8/5 6/8/5"),
-    ("a vaccine that ends that day", E.ended("20220901", 1, b"TESTV"), ""),
+    ("a vaccine that ends that day, before today", E.ended("20220901", 1, b"TESTV"), "4/8/5 6/8/5"),
     ("a vaccine that starts later", E.started("20220902", 1, b"TESTV"), "4/8/5 6/8/5"),
     ("a vaccine that starts that day", E.started("20220901", 1, b"TESTV"), ""),
     ("an unsound date: known is all that is asked", E.ended("20220831", 1, b"TESTV").set(6, 6, "x"), "4/8/5 6/6/2"),
@@ -234,7 +234,7 @@ VECTORS = [
     ("a reason that has ended", E.ended("20220831", 3, b"50"), "4/11/5 6/11/5"),
     ("a known reason without its pair", N.set(4, 11, "51"), "4/11/11"),
     ("a pair that has ended", E.ended("20220831", 7, b"TESTV", b"50"), "4/11/11 6/11/11"),
-    ("a pair that ends that day", E.ended("20220901", 7, b"TESTV", b"50"), ""),
+    ("a pair that ends that day, before today", E.ended("20220901", 7, b"TESTV", b"50"), "4/11/11 6/11/11"),
     ("an unsound date: the pair's absence is all that is asked", E.ended("20220831", 7, b"TESTV", b"50").set(6, 6, ""), "4/11/11 6/6/1"),
     ("an unsound date and no such pair", E.without(7, b"TESTV", b"50").set(6, 6, ""), "4/11/11 6/6/1 6/11/11"),
     ("a reason that has ended and has no pair: known is not in force", E.without(7, b"TESTV", b"50").ended("20220831", 3, b"50"), "4/11/5 4/11/11 6/11/5 6/11/11"),
@@ -330,7 +330,7 @@ VECTORS = [
     ("no antigen", N.set(13, 4, ""), "13/4/1"),
     ("an antigen of twenty-one", N.set(13, 4, "A" * 21), "13/4/2"),
     ("an antigen that the book has not", N.set(13, 4, "TESTX"), "13/4/4"),
-    ("an antigen that has ended: the date is its IN's", N.ended("20220901", 2, b"TESTB"), "19/4/5"),
+    ("an antigen that has ended: in an IE by today, in an IA by its IN's date", N.ended("20220901", 2, b"TESTB"), "6/4/5 8/4/5 19/4/5"),
     ("the antigen again is no matter in an IN", N.set(19, 4, "TESTA"), ""),
     # Errors we have seen or feared
     ("feared: joining by event across an IP record (the lot is not a second of the block; the event is named again)",
@@ -366,6 +366,71 @@ VECTORS = [
     ("room for each block of File N", N.but(room=3), ""),
     ("room for one block less", N.but(room=2), None),
     ("room for one block less, and a finding", N.set(2, 2, "").but(room=2), None),
+]
+
+
+# CR 1 of document 02: "for an II and its IE, a code or pair whose end is before today is in force only if II 5 is H (an unsound one is not H, and
+# the rules are still judged) and the old test holds too. An end on or after today is judged as before, and IN and IA records keep the old test".
+# The events of File E are of 20220901, and today is 20220930.
+
+# What ends, its entry in Book E, and what is found on the first lot and on the second where it is not in force.
+RETIRED = [
+    ("a vaccine", (1, b"TESTV"), "4/8/5", "6/8/5"),
+    ("an antigen", (2, b"TESTA"), "5/4/5", "7/4/5"),
+    ("a reason", (3, b"50"), "4/11/5", "6/11/5"),
+    ("a manufacturer", (4, b"GSK"), "4/14/5", "6/14/5"),
+    ("a dosage type", (5, b"ML"), "4/13/5", "6/13/5"),
+    ("a pair with the reason", (7, b"TESTV", b"50"), "4/11/11", "6/11/11"),
+    ("a pair with the antigen", (8, b"TESTV", b"TESTA"), "5/4/11", "7/4/11"),
+]
+# The same where all of them end.
+FIRST, SECOND = "4/8/5 4/11/5 4/11/11 4/13/5 4/14/5 5/4/5 5/4/11", "6/8/5 6/11/5 6/11/11 6/13/5 6/14/5 7/4/5 7/4/11"
+
+
+def flagged(case, first, second):
+    """File E with an II 5 on each lot."""
+    return case.set(4, 5, first).set(6, 5, second)
+
+
+def all_end(day, first="", second="", kind="A"):
+    """File E with an II 5 on each lot and a type, and a book in which every entry ends on a day."""
+    case = flagged(E.but(book=[e[:-8] + day.encode() for e in E.book]), first, second)
+    return case if kind == "A" else case.set(4, 4, kind).set(6, 4, kind).lend(X)
+
+
+def one_ends(what, code, first, second):
+    """File E with a book in which one entry ended yesterday."""
+    case = E.ended("20220929", *code)
+    return [(f"CR 1: {what} that ended yesterday, with H on the first lot", flagged(case, "H", ""), second),
+            (f"CR 1: {what} that ended yesterday, with X on the first lot and H on the second", flagged(case, "X", "H"), f"4/5/2 {first}")]
+
+
+H = flagged(E, "H", "H")
+VECTORS += [vector for row in RETIRED for vector in one_ends(*row)] + [
+    ("CR 1: all ended yesterday", all_end("20220929"), f"{FIRST} {SECOND}"),
+    ("CR 1: all ended yesterday, H", all_end("20220929", "H", "H"), ""),
+    ("CR 1: all end today, with H and without", all_end("20220930", "H", ""), ""),
+    ("CR 1: all end tomorrow, with H and without", all_end("20221001", "", "H"), ""),
+    ("CR 1: all ended on the day of the event", all_end("20220901"), f"{FIRST} {SECOND}"),
+    ("CR 1: all ended on the day of the event, H", all_end("20220901", "H", "H"), ""),
+    ("CR 1: all end on the day of the event, which is today", all_end("20220901").but(today=20220901), ""),
+    ("CR 1: all ended before the day of the event, with H and without", all_end("20220831", "H", ""), f"{FIRST} {SECOND}"),
+    ("CR 1: all ended yesterday, an unsound II 5 is not H", all_end("20220929", "h", "HH"), f"4/5/2 {FIRST} 6/5/2 {SECOND}"),
+    ("CR 1: all end today, an unsound II 5", all_end("20220930", " ", "H "), "4/5/2 6/5/2"),
+    ("CR 1: all ended yesterday, relaxed by field 20 is not H", all_end("20220929", "", "H").set(4, 20, "x"), FIRST),
+    ("CR 1: all ended yesterday, an unsound date", all_end("20220929").set(4, 6, "20220931"), f"4/6/2 {SECOND}"),
+    ("CR 1: all ended yesterday, an unsound date and no such pair", all_end("20220929", "", "H").set(4, 6, "").without(7, b"TESTV", b"50"),
+     "4/6/1 4/11/11 6/11/11"),
+    ("CR 1: all ended yesterday, an unknown vaccine is rule 4 alone", all_end("20220929", "H", "H").without(1, b"TESTV"), "4/8/4 6/8/4"),
+    ("CR 1: all ended yesterday, a change", all_end("20220929", "H", "", kind="C"), SECOND),
+    ("CR 1: all ended yesterday, a delete", all_end("20220929", "", "H", kind="D"), FIRST),
+    ("CR 1: a vaccine that starts since, H", H.started("20220902", 1, b"TESTV"), "4/8/5 6/8/5"),
+    ("CR 1: a vaccine that started and ended since, H", H.ended("20220929", 1, b"TESTV").started("20220902", 1, b"TESTV"), "4/8/5 6/8/5"),
+    ("CR 1: a vaccine that started that day and ended since, H", H.ended("20220929", 1, b"TESTV").started("20220901", 1, b"TESTV"), ""),
+    ("CR 1: a date after the end, which is today, H", H.ended("20220930", 4, b"GSK").set(6, 6, "20221001"), "6/6/8 6/14/5"),
+    ("CR 1: an antigen that ended yesterday, of IE lines and of IA lines, one II being H", N.ended("20220929", 2, b"TESTA"), "5/4/5 9/4/5 11/4/5"),
+    ("CR 1: an antigen that ended on its IN's day", N.ended("20220902", 2, b"TESTB"), "6/4/5 8/4/5"),
+    ("CR 1: a reason that ended on the day of one IN and after the other's", N.ended("20220902", 6, b"REF"), ""),
 ]
 
 

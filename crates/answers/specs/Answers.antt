@@ -12,7 +12,7 @@ use Rattle.lines.specs.Records.{IN, isKind, recs}
 use Rattle.lines.specs.Shape.{shapeOf}
 use Rattle.lines.specs.declared.Shape.{Shape}
 use Rattle.lines.specs.declared.Shape.the-variants as shape
-use Rattle.book.specs.Book.{bookOk, bookOf, listed, listedOn}
+use Rattle.book.specs.Book.{bookOk, bookOf, listed, listedOn, listedEnded}
 use Rattle.ledger.specs.Ledger.{Event, slotsIn, ledgerOk, liveIn, isAmong, eventsAfter, ledgerWith}
 use Rattle.rules.specs.Contexts.{contextsIn}
 use Rattle.rules.specs.Blocks.{eventsOf, adds, changes, deletes}
@@ -52,6 +52,7 @@ settingOf x =
       today = x .today;
       known = listed (bookOf (x .book));
       in-force = listedOn (bookOf (x .book));
+      ended = listedEnded (bookOf (x .book));
       live = isAmong (liveIn (x .ledger));
     }
 

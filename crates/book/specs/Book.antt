@@ -147,7 +147,7 @@ startedBy d e = cond (eqb (e .kind) vaccine) (leb (number (startOf e)) d) true
 unfoldable pub inForce : ℕ → Entry → Bool
 inForce d e = startedBy d e && leb d (number (endOf e))
 
--- its end is before day u. (Change request 1 asks for it, of today; until then it is asked of day 0, before which no end is.)
+-- its end is before day u
 unfoldable pub endedBefore : ℕ → Entry → Bool
 endedBefore u e = ltb (number (endOf e)) u
 

@@ -1,7 +1,7 @@
 -- The rules of a code by look-up in the book: rules 4 and 5, and rule 11 of a pair.
 -- Assumes nothing.
 use mathlib.Core.Path.{_≡_, refl, sym, ap, _∙_}
-use mathlib.Core.Bool.{Bool, true, false, not, cond, _&&_, _||_}
+use mathlib.Core.Bool.{Bool, true, false, not, cond, _&&_, _||_, and-true}
 use mathlib.Core.List.{[]}
 use Prim.Native.Nat.{ℕ}
 use Rattle.house.specs.Text.{Text, isEmpty}
@@ -10,16 +10,17 @@ use Rattle.book.specs.declared.Sections.{Sections}
 use Rattle.book.specs.Book.{codeText}
 use Rattle.rules_definitions.specs.Forms.{text}
 use Rattle.rules_definitions.specs.Seen.{Setting, Seen}
-use Rattle.rules_definitions.specs.Codes.{bookKind, codeRead, codeIn, dayIsSound, recordDay, isInForce, pairIn}
+use Rattle.rules_definitions.specs.Codes.{bookKind, codeRead, codeIn, dayIsSound, recordDay, allowsEnded, isInForce, pairIn}
 use Rattle.rules_definitions.specs.Rules.{brokenAt}
 use Rattle.rules_forms.specs.FieldLeaves.{lowest, givenIn}
 use Rattle.rules_forms.proofs.FieldLaws.{given-in}
 use Rattle.rules_fields.specs.declared.Day.{Day}
-use Rattle.book.specs.LookUp.{knownBy, inForceBy}
-use Rattle.rules_fields.specs.Fields.{broken, rules4and5Of, isOut, codeBy, isPairWrong}
+use Rattle.book.specs.LookUp.{knownBy, inForceBy, endedBy, inForceUntilBy}
+use Rattle.book.proofs.StandingLaws.{until-none}
+use Rattle.rules_fields.specs.Fields.{broken, anyEnd, rules4and5Of, isOut, codeBy, isPairWrong}
 use Rattle.rules.specs.declared.By.{By}
 use Rattle.rules.specs.Inside.{listed}
-use Rattle.rules.specs.Fields.{DayIs, Looks}
+use Rattle.rules.specs.Fields.{AskedOn, Looks}
 use Rattle.rules.proofs.AtLaws.{codeNumber, pairNumber, CodeAt}
 use Rattle.rules.proofs.LowestLaws.{Loose, low, one-broken}
 
@@ -39,6 +40,9 @@ six : (r : ℕ) (a b c d e g : Bool) (a2 b2 c2 d2 e2 g2 : Bool) → a ≡ a2 →
     → cond ((a && b) && (c && d) && (not e || g)) r 0 ≡ cond ((a2 && b2) && (c2 && d2) && (not e2 || g2)) r 0
 six r a b c d e g a2 b2 c2 d2 e2 g2 p1 p2 p3 p4 p5 p6 = rw (p1, p2, p3, p4, p5, p6)
 
+both-same : (a b x y m : Bool) → a ≡ b → x ≡ y → (a && (m || not x)) ≡ (b && (m || not y))
+both-same a b x y m p q = rw (p, q)
+
 code-of : (k f of : ℕ) (l : Rec) → bookKind k f ≡ of → codeRead k l f ≡ text l f → codeIn k l f ≡ codeText of (text l f) []
 unfolding codeIn
 code-of k f of l o r = rw (o, r)
@@ -47,7 +51,7 @@ code-of-8 : (l : Rec) → codeIn II l 8 ≡ codeText 1 (text l 8) []
 unfolding codeIn bookKind codeRead
 code-of-8 l = refl
 
-module _ (s : Setting) (v : Seen) (by : By) (book : Text) (day : Day) (ls : Looks by book s) (d : DayIs day v) where
+module _ (s : Setting) (v : Seen) (by : By) (book : Text) (day : Day) (ls : Looks by book s) (d : AskedOn day s v) where
   abbrev L : Rec
   L = v .line
 
@@ -58,17 +62,30 @@ module _ (s : Setting) (v : Seen) (by : By) (book : Text) (day : Day) (ls : Look
     known-same : knownBy book (by .sections) of y ≡ s .known of c
     known-same = sym (ap (s .known of) ce ∙ ap (λ (g : ℕ → Text → Bool). g of y) (ls .known-is))
 
-    force-same : isOut of y book (by .sections) day ≡ (dayIsSound v && not (isInForce s v of c))
-    unfolding isInForce
-    force-same = go (day .sound) refl ∙ ap (λ (b : Bool). b && not (s .in-force (recordDay v) of c)) (sym (d .sound-is))
+    until-same : (n : ℕ) → inForceUntilBy book Q n (day .until) of y ≡ inForceBy book Q n of y && (allowsEnded v || not (endedBy book Q (s .today) of y))
+    unfolding inForceUntilBy
+    until-same n = ap (λ (u : ℕ). inForceUntilBy book Q n u of y) (d .until-is) ∙ go (allowsEnded v)
       where
-        go : (b : Bool) → day .sound ≡ b → (b && not (inForceBy book (by .sections) (day .number) of y)) ≡ (b && not (s .in-force (recordDay v) of c))
-        go true e =
-            ap not
-            (sym
-            (ap (s .in-force (recordDay v) of) ce
-            ∙ ap (λ (g : ℕ → ℕ → Text → Bool). g (recordDay v) of y) (ls .force-is)
-            ∙ ap (λ (n : ℕ). inForceBy book (by .sections) n of y) (d .number-is e)))
+        go : (b : Bool) → inForceUntilBy book Q n (cond b anyEnd (s .today)) of y ≡ inForceBy book Q n of y && (b || not (endedBy book Q (s .today) of y))
+        go true = until-none book Q of y n ∙ sym (and-true (inForceBy book Q n of y))
+        go false = refl
+
+    in-same : day .sound ≡ true → inForceUntilBy book Q (day .number) (day .until) of y ≡ isInForce s v of c
+    unfolding isInForce
+    in-same e =
+        until-same (day .number)
+        ∙ sym
+        (both-same _ _ _ _ (allowsEnded v)
+        (ap (s .in-force (recordDay v) of) ce
+        ∙ ap (λ (g : ℕ → ℕ → Text → Bool). g (recordDay v) of y) (ls .force-is)
+        ∙ ap (λ (n : ℕ). inForceBy book Q n of y) (d .day-is .number-is e))
+        (ap (s .ended (s .today) of) ce ∙ ap (λ (g : ℕ → ℕ → Text → Bool). g (s .today) of y) (ls .ended-is)))
+
+    force-same : isOut of y book Q day ≡ (dayIsSound v && not (isInForce s v of c))
+    force-same = go (day .sound) refl ∙ ap (λ (b : Bool). b && not (isInForce s v of c)) (sym (d .day-is .sound-is))
+      where
+        go : (b : Bool) → day .sound ≡ b → (b && not (inForceUntilBy book Q (day .number) (day .until) of y)) ≡ (b && not (isInForce s v of c))
+        go true e = ap not (in-same e)
         go false e = refl
 
   module _ (k f of : ℕ) (c : Text) where

@@ -2,7 +2,7 @@
 -- Assumes nothing.
 use mathlib.Core.Path.{_≡_, refl, sym, _∙_}
 use mathlib.Core.Logic.{inl}
-use mathlib.Core.Bool.{false}
+use mathlib.Core.Bool.{Bool, true, false}
 use mathlib.Core.List.{List}
 use Prim.Native.Nat.{ℕ, _≤_}
 use native.Mathlib.Omega.{arith}
@@ -17,14 +17,26 @@ use Rattle.rules_forms.specs.FieldLeaves.{lowestIn}
 use Rattle.rules_forms.proofs.SoundLaws.{ip-2, in-2, in-5, ia-2}
 use Rattle.rules_plain.specs.PlainFields.{rule7By, rule6By, rule8TodayBy, rule8By, rule3By}
 use Rattle.rules_fields.specs.declared.Broken.{Broken}
-use Rattle.rules_fields.specs.Fields.{broken, codeBy}
+use Rattle.rules_fields.specs.declared.Day.{Day}
+use Rattle.rules_fields.specs.Fields.{broken, anyEnd, codeBy}
 use Rattle.rules.specs.declared.By.{By}
+use Rattle.rules.specs.declared.DayRead.{DayRead}
 use Rattle.rules.specs.declared.Here.{Here}
-use Rattle.rules.specs.Fields.{Judges}
-use Rattle.rules.proofs.ToldLaws.{kind-told, judges-rest, judges-at}
+use Rattle.rules.specs.Fields.{dayUntil, iiDay, Judges}
+use Rattle.rules.proofs.ToldLaws.{kind-told, in-asked, ia-asked, judges-rest, judges-at}
 use Rattle.rules.proofs.LowestLaws.{rules1-and-2-broken, rule7-number-broken, rule6-uli-broken, rule8-date-broken, rule8-birth-broken, rule3-version-broken}
 use Rattle.rules.proofs.CodeLaws.{rules4-and-5-broken}
 use Rattle.rules.proofs.AtLaws.{at-iv-rest, at-ip-2, at-ip-rest, at-in-2, at-in-3, at-in-5, at-in-6, at-in-rest, at-ia-2, at-ia-3, at-ia-4, at-ia-rest, at-other}
+
+-- ii_day
+module _ (day : DayRead) (historical : Bool) (today : ℕ) (r : Day) where
+  pub day-with-h : historical ≡ true → r ≡ dayUntil day anyEnd → r ≡ iiDay day historical today
+  day-with-h h e = e ∙ rw h
+
+  pub day-without-h : historical ≡ false → r ≡ dayUntil day today → r ≡ iiDay day historical today
+  day-without-h h e = e ∙ rw h
+
+pub ruleset for-ii-day = (needs, day-with-h, day-without-h)
 
 module _ (file : Text) (marks : List ℕ) (h : Here) (f : ℕ) (b : Broken) (t : Text) (d : t ≡ judgedIn file marks f) (x : ℕ) (p : b ≡ broken x 0 0) where
   -- judge_plain
@@ -90,13 +102,13 @@ module _ (file : Text) (marks : List ℕ) (h : Here) (book : Text) (by : By) (f 
         rw (p, z)
         (rule8-date-broken s v t 6 5 (by .today) (h .born) u (in-5 (v .line)) (w .looks .today-is) (w .born-is) refl (at-in-5 s v (kind-told file marks h book by s v w 6 k))))
 
-    pub need-in-6 : f ≡ 6 → x ≡ codeBy 6 false 6 t t book (by .sections) (h .day) → Judges file marks h book by f b
+    pub need-in-6 : f ≡ 6 → (day : Day) → day ≡ dayUntil (h .day) anyEnd → x ≡ codeBy 6 false 6 t t book (by .sections) day → Judges file marks h book by f b
     unfolding codeRead bookKind
-    need-in-6 e z =
+    need-in-6 e day c z =
         judges-at file marks h book by f b t d 6 (omega arith) e
         (λ s v w u.
         let o = kind-told file marks h book by s v w 6 k in
-        rw (p, z) (rules4-and-5-broken s v by book (h .day) (w .looks) (w .day-is (rw o)) 6 6 6 false t u (inl refl) refl refl (at-in-6 s v o)))
+        rw (p, z, c) (rules4-and-5-broken s v by book _ (w .looks) (in-asked file marks h book by s v w o) 6 6 6 false t u (inl refl) refl refl (at-in-6 s v o)))
 
     pub need-in-rest : f ≤ 28 → (f ≡ 2 → ⊥) → (f ≡ 3 → ⊥) → (f ≡ 5 → ⊥) → (f ≡ 6 → ⊥) → x ≡ lowestIn 6 false f t 0 → Judges file marks h book by f b
     need-in-rest l n2 n3 n5 n6 z =
@@ -115,13 +127,13 @@ module _ (file : Text) (marks : List ℕ) (h : Here) (book : Text) (by : By) (f 
         judges-at file marks h book by f b t d 3 (omega arith) e
         (λ s v w u. rw (p, z) (rule6-uli-broken s v t 7 q u (w .uli-is ∙ sym c) refl (at-ia-3 s v (kind-told file marks h book by s v w 7 k))))
 
-    pub need-ia-4 : f ≡ 4 → x ≡ codeBy 7 false 4 t t book (by .sections) (h .day) → Judges file marks h book by f b
+    pub need-ia-4 : f ≡ 4 → (day : Day) → day ≡ dayUntil (h .day) anyEnd → x ≡ codeBy 7 false 4 t t book (by .sections) day → Judges file marks h book by f b
     unfolding codeRead bookKind
-    need-ia-4 e z =
+    need-ia-4 e day c z =
         judges-at file marks h book by f b t d 4 (omega arith) e
         (λ s v w u.
         let o = kind-told file marks h book by s v w 7 k in
-        rw (p, z) (rules4-and-5-broken s v by book (h .day) (w .looks) (w .day-is (rw o)) 7 4 2 false t u (inl refl) refl refl (at-ia-4 s v o)))
+        rw (p, z, c) (rules4-and-5-broken s v by book _ (w .looks) (ia-asked file marks h book by s v w o) 7 4 2 false t u (inl refl) refl refl (at-ia-4 s v o)))
 
     pub need-ia-rest : f ≤ 28 → (f ≡ 2 → ⊥) → (f ≡ 3 → ⊥) → (f ≡ 4 → ⊥) → x ≡ lowestIn 7 false f t 0 → Judges file marks h book by f b
     need-ia-rest l n2 n3 n4 z =

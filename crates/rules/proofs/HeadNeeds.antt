@@ -23,12 +23,13 @@ use Rattle.rules_forms.proofs.SoundLaws.{ie-2}
 use Rattle.rules_lists.proofs.ListLaws.{antigens-are}
 use Rattle.rules_plain.specs.PlainFields.{rule7By, rule6By}
 use Rattle.rules_fields.specs.declared.Broken.{Broken}
+use Rattle.rules_fields.specs.declared.Day.{Day}
 use Rattle.rules_fields.specs.Fields.{broken, pairField, rule11By, rule12By, ie4Antigen}
 use Rattle.rules.specs.declared.By.{By}
 use Rattle.rules.specs.declared.Here.{Here}
 use Rattle.rules.specs.Inside.{listed}
-use Rattle.rules.specs.Fields.{Told, Judges}
-use Rattle.rules.proofs.ToldLaws.{kind-told, judges-rest, judges-at}
+use Rattle.rules.specs.Fields.{iiDay, Told, Judges}
+use Rattle.rules.proofs.ToldLaws.{kind-told, ie-asked, judges-rest, judges-at}
 use Rattle.rules.proofs.LowestLaws.{rules1-and-2-broken, rule7-number-broken, rule6-uli-broken}
 use Rattle.rules.proofs.CodeLaws.{rules4-and-5-low, rule11-pair-seen}
 use Rattle.rules.proofs.AtLaws.{pairNumber, at-ie-2, at-ie-3, at-ie-4, at-ie-rest}
@@ -45,10 +46,13 @@ module _ (file : Text) (marks : List ℕ) (h : Here) (book : Text) (by : By) (k 
     kind-ie : v .line .kind ≡ IE
     kind-ie = kind-told file marks h book by s v w 5 k
 
-    rule11-4 : (vaccine : Text) → text (v .head) 8 ≡ vaccine → rule11By IE t t vaccine book (by .sections) (h .day) ≡ pairNumber s v IE 4 2 8
+    abbrev D : Day
+    D = iiDay (h .day) (h .historical) (by .today)
+
+    rule11-4 : (vaccine : Text) → text (v .head) 8 ≡ vaccine → rule11By IE t t vaccine book (by .sections) D ≡ pairNumber s v IE 4 2 8
     unfolding bookKind pairField pairKind codeIn codeRead pairIn
     rule11-4 vaccine he =
-        rule11-pair-seen s v by book (h .day) (w .looks) (w .day-is (rw kind-ie)) IE 4 2 t 8 t vaccine e he (ap (λ (u : Text). codeText 2 u []) (sym e))
+        rule11-pair-seen s v by book D (w .looks) (ie-asked file marks h book by s v w kind-ie) IE 4 2 t 8 t vaccine e he (ap (λ (u : Text). codeText 2 u []) (sym e))
         (ap (λ (n : ℕ). codeText (pairKind n) (text (v .head) 8) (codeRead n (v .line) 4)) kind-ie ∙ rw (he, ← e))
 
     rule12-4 : (since : Text) → v .antigens ≡ reverse (recs since) → rule12By t since ≡ cond (isSound IE L 4 && any (sameAntigen L) (v .antigens)) 12 0
@@ -62,18 +66,18 @@ module _ (file : Text) (marks : List ℕ) (h : Here) (book : Text) (by : By) (k 
           sound-in IE L 4,
         )
 
-    at-4 : (vaccine since : Text) → text (v .head) 8 ≡ vaccine → v .antigens ≡ reverse (recs since) → listed (ie4Antigen t vaccine since book (by .sections) (h .day)) ≡ brokenAt s v 4
+    at-4 : (vaccine since : Text) → text (v .head) 8 ≡ vaccine → v .antigens ≡ reverse (recs since) → listed (ie4Antigen t vaccine since book (by .sections) D) ≡ brokenAt s v 4
     unfolding ie4Antigen bookKind codeRead
     at-4 vaccine since he a =
-        three-same _ _ _ _ _ _ (rules4-and-5-low s v by book (h .day) (w .looks) (w .day-is (rw kind-ie)) IE 4 2 t false e (inl refl) refl refl) (rule11-4 vaccine he) (rule12-4 since a)
+        three-same _ _ _ _ _ _ (rules4-and-5-low s v by book D (w .looks) (ie-asked file marks h book by s v w kind-ie) IE 4 2 t false e (inl refl) refl refl) (rule11-4 vaccine he) (rule12-4 since a)
         ∙ sym (at-ie-4 s v kind-ie)
 
   module _ (f : ℕ) (b : Broken) (t : Text) (d : t ≡ judgedIn file marks f) where
-    pub need-ie-4 : f ≡ 4 → (vaccine since : Text) → vaccine ≡ part file (h .vaccine .start) (h .vaccine .end) → since ≡ part file (h .since) (h .at)
-        → b ≡ ie4Antigen t vaccine since book (by .sections) (h .day) → Judges file marks h book by f b
-    need-ie-4 e vaccine since c g p =
+    pub need-ie-4 : f ≡ 4 → (vaccine since : Text) (day : Day) → vaccine ≡ part file (h .vaccine .start) (h .vaccine .end) → since ≡ part file (h .since) (h .at)
+        → day ≡ iiDay (h .day) (h .historical) (by .today) → b ≡ ie4Antigen t vaccine since book (by .sections) day → Judges file marks h book by f b
+    need-ie-4 e vaccine since day c g q p =
         judges-at file marks h book by f b t d 4 (omega arith) e
-        (λ s v w u. rw p (at-4 s v w t u vaccine since (w .vaccine-is (rw (kind-told file marks h book by s v w 5 k)) ∙ sym c) (w .antigens-are ∙ ap (λ (q : Text). reverse (recs q)) (sym g))))
+        (λ s v w u. rw (p, q) (at-4 s v w t u vaccine since (w .vaccine-is (rw (kind-told file marks h book by s v w 5 k)) ∙ sym c) (w .antigens-are ∙ ap (λ (z : Text). reverse (recs z)) (sym g))))
 
     module _ (x : ℕ) (p : b ≡ broken x 0 0) where
       pub need-ie-2 : f ≡ 2 → x ≡ lowestIn 5 false 2 t (rule7By (valueOf t) (h .place)) → Judges file marks h book by f b

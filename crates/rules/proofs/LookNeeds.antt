@@ -27,7 +27,7 @@ use Rattle.lines.specs.Records.{Rec, IE, isKind, recordOf, recs}
 use Rattle.lines.specs.Inside.{whole}
 use Rattle.lines.proofs.PartLaws.{recs-past, recs-on, ended-inside, whole-step}
 use Rattle.ledger.specs.Ledger.{foundIn}
-use Rattle.rules_definitions.specs.Forms.{text}
+use Rattle.rules_definitions.specs.Forms.{text, isHistorical}
 use Rattle.rules_definitions.specs.Blocks.{isInBlock, eventOf}
 use Rattle.rules_forms.proofs.FieldLaws.{text-is}
 use Rattle.rules_walk.specs.Firsts.{soundFour}
@@ -35,9 +35,9 @@ use Rattle.rules_walk.specs.Repeats.{isNoted}
 use Rattle.rules_walk.proofs.BlockNeeds.{block-four}
 use Rattle.rules.specs.declared.Open.{Open}
 use Rattle.rules.specs.declared.BlockAt.{BlockAt}
-use Rattle.rules_fields.specs.declared.Day.{Day}
+use Rattle.rules.specs.declared.DayRead.{DayRead}
 use Rattle.rules_fields.specs.declared.Facts.{Facts}
-use Rattle.rules.specs.Walk.{partOf, recIn, ReadIn, oneDay, noDay, dayOf, joinsOpenBy, blockBy, factsBy, vaccineBy, dayBy, OwnIs, OwnEnd}
+use Rattle.rules.specs.Walk.{partOf, recIn, ReadIn, oneDay, noDay, dayOf, joinsOpenBy, blockBy, factsBy, historicalBy, vaccineBy, dayBy, OwnIs, OwnEnd}
 use Rattle.rules.proofs.WalkLaws.{no-recs, kind-is, recs-next}
 
 -- day_of_text
@@ -61,7 +61,7 @@ module _ (file : Text) (m : List ℕ) (r : ReadIn file m) where
       ∙ sym (text-is (lineOf (drop (getD m 0 0) file) .text) f)
 
   -- day_in
-  pub day-in-is : (f : ℕ) (t : Text) (d : Day) → f ≤ 28 → t ≡ judgedIn file m f → d ≡ dayOf t → d ≡ dayOf (text (recIn file m) f)
+  pub day-in-is : (f : ℕ) (t : Text) (d : DayRead) → f ≤ 28 → t ≡ judgedIn file m f → d ≡ dayOf t → d ≡ dayOf (text (recIn file m) f)
   day-in-is f t d l e p = p ∙ ap dayOf (e ∙ read-text f l)
 
   -- event_of
@@ -87,7 +87,16 @@ module _ (file : Text) (m : List ℕ) (r : ReadIn file m) where
       → x ≡ same (text (recIn file m) f) (partOf file p)
   same-is f p t u x l a b e = e ∙ rw (a ∙ read-text f l, b)
 
-pub ruleset for-line = (needs, day-in-is, event-is, block-other, block-sound, same-is)
+  -- historical_of
+  pub historical-own : (k : ℕ) (was : Bool) (t : Text) (x : Bool) → k ≡ 4 → t ≡ judgedIn file m 5 → x ≡ isHistorical t → x ≡ historicalBy (recIn file m) k was
+  unfolding historicalBy
+  historical-own k was t x h e p = p ∙ rw (h, e ∙ read-text 5 (omega arith))
+
+  pub historical-was : (k : ℕ) (was : Bool) → (k ≡ 4 → ⊥) → was ≡ historicalBy (recIn file m) k was
+  unfolding historicalBy
+  historical-was k was n = rw (ne-eqb k 4 n)
+
+pub ruleset for-line = (needs, historical-own, historical-was, day-in-is, event-is, block-other, block-sound, same-is)
 
 -- joins_open
 module _ (file : Text) (l : Rec) (o : Open) (a : Bool) (p : a ≡ same (text l 4) (partOf file (o .kind))) where
@@ -159,8 +168,8 @@ module _ (file : Text) (m : List ℕ) (k : ℕ) (was : Span) where
 
 pub ruleset for-vaccine-of = (needs, vaccine-own, vaccine-was)
 
-module _ (l : Rec) (k : ℕ) (ii inn : Day) where
-  pub day-ii : (r : Day) → k ≡ 4 → r ≡ dayOf (text l 6) → r ≡ dayBy l k ii inn
+module _ (l : Rec) (k : ℕ) (ii inn : DayRead) where
+  pub day-ii : (r : DayRead) → k ≡ 4 → r ≡ dayOf (text l 6) → r ≡ dayBy l k ii inn
   unfolding dayBy
   day-ii r h e = e ∙ rw h
 
@@ -168,7 +177,7 @@ module _ (l : Rec) (k : ℕ) (ii inn : Day) where
   unfolding dayBy
   day-ie h = rw h
 
-  pub day-in : (r : Day) → k ≡ 6 → r ≡ dayOf (text l 5) → r ≡ dayBy l k ii inn
+  pub day-in : (r : DayRead) → k ≡ 6 → r ≡ dayOf (text l 5) → r ≡ dayBy l k ii inn
   unfolding dayBy
   day-in r h e = e ∙ rw h
 

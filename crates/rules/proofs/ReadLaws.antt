@@ -11,7 +11,7 @@ use Rattle.house.specs.Text.{those}
 use Rattle.house.proofs.Small.{clash}
 use Rattle.ledger.specs.Ledger.{Event}
 use Rattle.rules_definitions.specs.Seen.{Setting, Seen}
-use Rattle.rules_definitions.specs.Codes.{isKnown, isInForce, dayIsSound, recordDay, pairIn}
+use Rattle.rules_definitions.specs.Codes.{isKnown, allowsEnded, isInForce, dayIsSound, recordDay, pairIn}
 use Rattle.rules_definitions.specs.Rules.{Numbered, numbered, rule1, rule2, rule3, rule4, rule5, rule6, rule7, rule8, rule9, rule10, rule11, rule12, rule13, rule14, rule15Places, rule15, ledgerPlaces, rule16, rule17, rule18, afterToday, beforeBirth, rules, rulesIn, rulesOf, brokenBy}
 
 -- what is seen, with another answer to both
@@ -34,7 +34,7 @@ told repeated live v =
 
 -- what a file is judged by, over another ledger
 abbrev pub overLedger : (Event → Bool) → Setting → Setting
-overLedger live s = record { profile = s .profile; today = s .today; known = s .known; in-force = s .in-force; live = live }
+overLedger live s = record { profile = s .profile; today = s .today; known = s .known; in-force = s .in-force; ended = s .ended; live = live }
 
 abbrev pub Each : (Numbered → Type 0) → List Numbered → Type 0
 Each P [] = Unit {0}
@@ -45,7 +45,7 @@ module _ (s : Setting) (other : Event → Bool) (v : Seen) (repeated live : Bool
   pub each-rule : ((x : Numbered) → x .broken s v f ≡ x .broken (overLedger other s) (told repeated live v) f → P x)
       → P (numbered 15 rule15Places rule15) → P (numbered 16 ledgerPlaces rule16) → P (numbered 17 ledgerPlaces rule17) → P (numbered 18 ledgerPlaces rule18)
       → Each P (rulesOf s)
-  unfolding rulesOf rulesIn rules rule1 rule2 rule3 rule4 rule5 rule6 rule7 rule8 rule9 rule10 rule11 rule12 rule13 rule14 isKnown isInForce afterToday beforeBirth dayIsSound recordDay pairIn
+  unfolding rulesOf rulesIn rules rule1 rule2 rule3 rule4 rule5 rule6 rule7 rule8 rule9 rule10 rule11 rule12 rule13 rule14 isKnown allowsEnded isInForce afterToday beforeBirth dayIsSound recordDay pairIn
   each-rule g a b c d =
       (g _ refl, (g _ refl, (g _ refl, (g _ refl, (g _ refl, (g _ refl, (g _ refl, (g _ refl, (g _ refl, (g _ refl, (g _ refl, (g _ refl, (g _ refl, (g _ refl, (a, (b, (c, (d, tt))))))))))))))))))
 

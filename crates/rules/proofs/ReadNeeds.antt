@@ -1,7 +1,7 @@
 -- What each need of the functions that read a line asks, and of those that tell what is known of it.
 -- Assumes nothing.
 use mathlib.Core.Path.{_≡_, refl, sym, ap, _∙_, subst}
-use mathlib.Core.Bool.{true}
+use mathlib.Core.Bool.{Bool, true}
 use mathlib.Core.List.{List}
 use Prim.Native.Nat.{ℕ, _+_, _≤_, _<_}
 use native.Mathlib.Nat.{add-zero}
@@ -26,9 +26,9 @@ use Rattle.rules.specs.declared.State.{State}
 use Rattle.rules.specs.declared.Read.{Read}
 use Rattle.rules.specs.declared.BlockAt.{BlockAt}
 use Rattle.rules.specs.declared.Here.{Here}
-use Rattle.rules_fields.specs.declared.Day.{Day}
+use Rattle.rules.specs.declared.DayRead.{DayRead}
 use Rattle.rules_fields.specs.declared.Facts.{Facts}
-use Rattle.rules.specs.Walk.{recIn, ReadIn, ReadAs, readOf, lineRec, blockBy, factsBy, vaccineBy, dayBy, OwnEnd, hereWith, blockOf, HereIs, Holds, LookAt}
+use Rattle.rules.specs.Walk.{recIn, ReadIn, ReadAs, readOf, lineRec, blockBy, factsBy, historicalBy, vaccineBy, dayBy, OwnEnd, hereWith, blockOf, HereIs, Holds, LookAt}
 use Rattle.rules.proofs.WalkLaws.{kind-is}
 
 -- THE LINE THAT WAS READ
@@ -65,9 +65,10 @@ module _ (file : Text) (m : List ℕ) (r : Read) (a : ReadAs file m r) where
 
 -- here_of
 module _ (file : Text) (m : List ℕ) (r : Read) (st : State) (b : BlockAt) (fs : Facts) (own : ℕ) where
-  pub here-is : (v : Span) (d : Day) → v ≡ vaccineBy file m (r .kind) (st .known .vaccine) → d ≡ dayBy (recIn file m) (r .kind) (st .known .«ii_day») (st .known .«in_day»)
+  pub here-is : (x : Bool) (v : Span) (d : DayRead) → x ≡ historicalBy (recIn file m) (r .kind) (st .known .historical) → v ≡ vaccineBy file m (r .kind) (st .known .vaccine) → d ≡ dayBy (recIn file m) (r .kind) (st .known .«ii_day») (st .known .«in_day»)
       → _≡_ {A = Here} (record {
         kind = r .kind;
+        historical = x;
         n = st .n;
         place = st .place;
         at = r .at;
@@ -83,7 +84,7 @@ module _ (file : Text) (m : List ℕ) (r : Read) (st : State) (b : BlockAt) (fs 
         facts = fs;
       }) (hereWith file m r st b fs own)
   unfolding hereWith
-  here-is v d p q = rw (p, q)
+  here-is x v d o p q = rw (o, p, q)
 
   here-own : OwnEnd file (fs .joined) (r .next) own → OwnEnd file (hereWith file m r st b fs own .facts .joined) (hereWith file m r st b fs own .next) own
   unfolding hereWith

@@ -22,14 +22,14 @@ use Rattle.lines_fields.proofs.MarkLaws.{judged-nil, mark-at, marked-judged, sp
 use Rattle.lines.specs.Records.{Rec, II, isKind, recOf, recs}
 use Rattle.lines.specs.Inside.{whole}
 use Rattle.lines.proofs.PartLaws.{ended-inside, whole-step}
-use Rattle.rules_definitions.specs.Forms.{fieldIn, text}
-use Rattle.rules_definitions.specs.Contexts.{noRec}
+use Rattle.rules_definitions.specs.Forms.{fieldIn, text, isHistorical}
+use Rattle.rules_definitions.specs.Contexts.{noRec, nearest}
 use Rattle.rules_definitions.specs.Blocks.{isInBlock, sameEvent, joins, nearestOf, blockIn, openAfter, beforeOpen, beforeBlock, begins}
 use Rattle.rules_definitions.proofs.EventLaws.{named}
 use Rattle.rules_forms.proofs.FieldLaws.{text-is}
 use Rattle.rules.specs.declared.State.{State}
 use Rattle.rules.specs.declared.Here.{Here}
-use Rattle.rules.specs.Walk.{partOf, lineRec, recIn, linesBefore, Holds, joinsOpenBy, blockBy, factsBy, vaccineBy, dayBy, hereWith, HereIs}
+use Rattle.rules.specs.Walk.{partOf, lineRec, recIn, linesBefore, Holds, joinsOpenBy, blockBy, factsBy, historicalBy, vaccineBy, dayBy, hereWith, HereIs}
 use Rattle.rules.proofs.WalkLaws.{no-recs, recs-next, back-step, before-step}
 
 -- THE OPEN BLOCK
@@ -175,6 +175,21 @@ module _ (file : Text) (at : ℕ) (st : State) (h : Holds file at st) (less : at
 
   abbrev M : List ℕ
   M = marksAt file at
+
+  pub historical-is : y .historical ≡ historicalBy (lineRec file at) (y .kind) (st .known .historical)
+  unfolding hereWith
+  historical-is =
+      ap (λ (z : Here). z .historical) (i .exact)
+      ∙ ap (λ (k : ℕ). historicalBy (recIn file M) k (st .known .historical)) (sym its-kind)
+      ∙ ap (λ (l : Rec). historicalBy l (y .kind) (st .known .historical)) (its-rec file at less)
+
+  pub historical-step : y .historical ≡ isHistorical (text (nearest II (linesBefore file (y .next))) 5)
+  unfolding historicalBy
+  historical-step = rw (step, kind-of II, historical-is) (go (eqb (y .kind) II))
+    where
+      go : (t : Bool) → cond t (isHistorical (text (lineRec file at) 5)) (st .known .historical) ≡ isHistorical (text (cond t (lineRec file at) (nearest II (linesBefore file at))) 5)
+      go true = refl
+      go false = h .known-is .historical-is
 
   pub vaccine-is : y .vaccine ≡ vaccineBy file (marksAt file at) (y .kind) (st .known .vaccine)
   unfolding hereWith

@@ -1,10 +1,11 @@
 -- The state that the walk starts with shows the first line.
 -- Assumes nothing.
 use mathlib.Core.Path.{_≡_, refl, sym, ap, _∙_}
+use mathlib.Core.Bool.{false}
 use mathlib.Core.List.{List, []}
 use Prim.Native.Nat.{ℕ, zero, suc, _≤_}
 use native.Mathlib.Omega.{arith}
-use Rattle.house.specs.Text.{Text}
+use Rattle.house.specs.Text.{Text, same, orderOf}
 use Rattle.house.proofs.Small.{clash}
 use Rattle.dates.specs.Dates.{isDate}
 use Rattle.lines_fields.specs.declared.Span.{Span}
@@ -13,9 +14,9 @@ use Rattle.lines_fields.specs.Marks.{span}
 use Rattle.lines_fields.proofs.MarkLaws.{judged-nil}
 use Rattle.lines.specs.Records.{Rec, recOf, recs}
 use Rattle.lines.specs.Inside.{whole}
-use Rattle.rules_definitions.specs.Forms.{fieldIn, text}
+use Rattle.rules_definitions.specs.Forms.{fieldIn, text, isHistorical}
 use Rattle.rules_definitions.specs.Contexts.{noRec}
-use Rattle.rules_fields.specs.declared.Day.{Day}
+use Rattle.rules.specs.declared.DayRead.{DayRead}
 use Rattle.rules.specs.Walk.{linesBefore, LinesAre, dayOf, OpenIs, Holds, noDay, noOpen, startState}
 use Rattle.rules.proofs.WalkLaws.{no-recs}
 
@@ -38,6 +39,10 @@ no-day : dayOf [] ≡ noDay
 unfolding dayOf isDate
 no-day = refl
 
+no-history : isHistorical [] ≡ false
+unfolding isHistorical same orderOf
+no-history = refl
+
 pub holds-start : (file : Text) → Holds file 0 startState
 unfolding linesBefore recs linesOf whole
 holds-start file =
@@ -46,7 +51,8 @@ holds-start file =
       place-is = refl;
       known-is = record {
         uli-is = no-text 3;
-        born-is = sym (ap (λ (t : Text). dayOf t .number) (no-text 25) ∙ ap (λ (d : Day). d .number) no-day);
+        born-is = sym (ap (λ (t : Text). dayOf t .number) (no-text 25) ∙ ap (λ (d : DayRead). d .number) no-day);
+        historical-is = sym (ap isHistorical (no-text 5) ∙ no-history);
         vaccine-is = no-text 8;
         ii-day-is = sym (ap dayOf (no-text 6) ∙ no-day);
         in-day-is = sym (ap dayOf (no-text 5) ∙ no-day);

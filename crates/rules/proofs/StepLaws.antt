@@ -277,7 +277,7 @@ module _ (file : Text) (at : ℕ) (st : State) (h : Holds file at st) (less : at
       record {
         ended = ended-step;
         place-is = place-step;
-        known-is = record { uli-is = uli-step; born-is = born-step; vaccine-is = vaccine-step; ii-day-is = ii-day-step; in-day-is = in-day-step };
+        known-is = record { uli-is = uli-step; born-is = born-step; historical-is = seen.historical-step file at st h less table ledger live y i; vaccine-is = vaccine-step; ii-day-is = ii-day-step; in-day-is = in-day-step };
         since-is = since-step;
         open-is = last-step;
         run-is = run-step;

@@ -1,23 +1,27 @@
 -- What a line's marks tell of what is seen from it: the texts of its fields, and whether its event is relaxed.
 -- Assumes nothing.
-use mathlib.Core.Path.{_≡_, sym, ap, _∙_}
+use mathlib.Core.Path.{_≡_, refl, sym, ap, _∙_}
+use mathlib.Core.Bool.{true, cond}
 use mathlib.Core.List.{List}
 use Prim.Native.Nat.{ℕ, _≤_}
 use native.Mathlib.Omega.{arith}
-use Rattle.house.specs.Text.{Text}
+use Rattle.house.specs.Text.{Text, within}
 use Rattle.lines_fields.specs.Lines.{lineOf}
 use Rattle.lines_fields.specs.Marks.{judgedIn}
 use Rattle.lines_fields.proofs.MarkLaws.{marked-judged}
-use Rattle.lines.specs.Records.{Rec}
+use Rattle.lines.specs.Records.{Rec, II, IE, IN, IA}
 use Rattle.rules_definitions.specs.Forms.{text, isRelaxed}
+use Rattle.rules_definitions.specs.Contexts.{headKind}
 use Rattle.rules_definitions.specs.Seen.{Setting, Seen}
+use Rattle.rules_definitions.specs.Codes.{allowsEnded}
 use Rattle.rules_definitions.specs.Rules.{brokenAt}
 use Rattle.rules_forms.proofs.FieldLaws.{text-is, relaxed-is}
 use Rattle.rules_fields.specs.declared.Broken.{Broken}
 use Rattle.rules.specs.declared.By.{By}
 use Rattle.rules.specs.declared.Here.{Here}
 use Rattle.rules.specs.Inside.{listed}
-use Rattle.rules.specs.Fields.{Told, Judges, relaxedIn}
+use Rattle.rules_fields.specs.Fields.{anyEnd}
+use Rattle.rules.specs.Fields.{dayUntil, iiDay, AskedOn, Told, Judges, relaxedIn}
 use lib.ListN.{drop}
 
 module _ (file : Text) (marks : List ℕ) (h : Here) (book : Text) (by : By) where
@@ -36,6 +40,27 @@ module _ (file : Text) (marks : List ℕ) (h : Here) (book : Text) (by : By) whe
 
     pub kind-told : (k : ℕ) → h .kind ≡ k → v .line .kind ≡ k
     kind-told k e = sym (w .kind-is) ∙ e
+
+    -- on what day its codes are asked about: of an II and its IE by II 5, of an IN and its IA with any end
+    module _ (j : ℕ) (e : v .line .kind ≡ j) (n : within II IA j ≡ true) (u : ℕ) where
+      asked : u ≡ cond (allowsEnded v) anyEnd (s .today) → AskedOn (dayUntil (h .day) u) s v
+      asked p = record { day-is = w .day-is (ap (within II IA) e ∙ n); until-is = p }
+
+    pub ii-asked : v .line .kind ≡ II → AskedOn (iiDay (h .day) (h .historical) (by .today)) s v
+    unfolding allowsEnded headKind
+    ii-asked e = asked II e refl _ (rw (e, w .historical-is (rw e), w .looks .today-is))
+
+    pub ie-asked : v .line .kind ≡ IE → AskedOn (iiDay (h .day) (h .historical) (by .today)) s v
+    unfolding allowsEnded headKind
+    ie-asked e = asked IE e refl _ (rw (e, w .historical-is (rw e), w .looks .today-is))
+
+    pub in-asked : v .line .kind ≡ IN → AskedOn (dayUntil (h .day) anyEnd) s v
+    unfolding allowsEnded headKind
+    in-asked e = asked IN e refl _ (rw e)
+
+    pub ia-asked : v .line .kind ≡ IA → AskedOn (dayUntil (h .day) anyEnd) s v
+    unfolding allowsEnded headKind
+    ia-asked e = asked IA e refl _ (rw e)
 
   -- by the text of the field itself
   module _ (f : ℕ) (b : Broken) (t : Text) (d : t ≡ judgedIn file marks f) where

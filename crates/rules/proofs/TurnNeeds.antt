@@ -113,7 +113,7 @@ module _ (file : Text) (m₀ : List ℕ) (t : Turn) (g : TurnAt file m₀ t) whe
 
       looks : Looks by book S
       unfolding settingBy
-      looks = record { today-is = refl; known-is = refl; force-is = refl }
+      looks = record { today-is = refl; known-is = refl; force-is = refl; ended-is = refl }
 
       lives : S .live ≡ foundIn ledger (by .live)
       unfolding settingBy

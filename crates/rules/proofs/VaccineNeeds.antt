@@ -1,6 +1,6 @@
 -- What each need of the function on an II's fields asks.
 -- Assumes nothing.
-use mathlib.Core.Path.{_≡_, refl, sym, ap, _∙_}
+use mathlib.Core.Path.{_≡_, refl, sym, ap, _∙_, subst}
 use mathlib.Core.Logic.{inl, inr}
 use mathlib.Core.Bool.{Bool, true, false, cond, _&&_}
 use mathlib.Core.List.{List}
@@ -23,12 +23,13 @@ use Rattle.rules_forms.proofs.SoundLaws.{ii-2, ii-6}
 use Rattle.rules_plain.specs.PlainFields.{rule7By, rule6By, rule8By, rule14By}
 use Rattle.rules_plain.proofs.PlainLaws.{rule14-lot-later}
 use Rattle.rules_fields.specs.declared.Broken.{Broken}
+use Rattle.rules_fields.specs.declared.Day.{Day}
 use Rattle.rules_fields.specs.Fields.{broken, rules4and5Of, rules16to18At, codeBy, pairField, rule10By, rule11By, rule13By, ii4Type, ii8Vaccine, ii9Site, ii10Method, ii11Reason, ii12Dosage, ii13DosageType}
 use Rattle.rules.specs.declared.By.{By}
 use Rattle.rules.specs.declared.Here.{Here}
 use Rattle.rules.specs.Inside.{listed}
-use Rattle.rules.specs.Fields.{DayIs, Blocked, Told, Judges, relaxedIn, ii8In}
-use Rattle.rules.proofs.ToldLaws.{text-told, relaxed-told, kind-told, judges-rest, judges-at}
+use Rattle.rules.specs.Fields.{iiDay, AskedOn, Blocked, Told, Judges, relaxedIn, ii8In}
+use Rattle.rules.proofs.ToldLaws.{text-told, relaxed-told, kind-told, ii-asked, judges-rest, judges-at}
 use Rattle.rules.proofs.LowestLaws.{low, one-broken, rules1-and-2-broken, rule7-number-broken, rule6-uli-broken, rule8-date-broken}
 use Rattle.rules.proofs.CodeLaws.{codeOf, rules4-and-5-seen, rule11-pair-seen, rules4-and-5-low, rules4-and-5-broken}
 use Rattle.rules.proofs.ReasonLaws.{reason-code, reason-pair}
@@ -37,9 +38,9 @@ use Rattle.rules.proofs.AtLaws.{codeNumber, pairNumber, lackNumber, at-
 use Rattle.rules.proofs.RuleLaws.{any-reverse, rule13-sets-back}
 
 -- judge_ii8
-pub vaccine-in : (file : Text) (h : Here) (book : Text) (by : By) (t own first : Text) (b : Broken) → own ≡ part file (h .next) (h .own)
-    → first ≡ part file (h .first .start) (h .first .end) → b ≡ ii8Vaccine t own first book (by .sections) (h .day) (h .facts) → b ≡ ii8In file h book by t
-vaccine-in file h book by t own first b c d e = rw (← c, ← d) e
+pub vaccine-in : (file : Text) (h : Here) (book : Text) (by : By) (t own first : Text) (day : Day) (b : Broken) → own ≡ part file (h .next) (h .own)
+    → first ≡ part file (h .first .start) (h .first .end) → b ≡ ii8Vaccine t own first book (by .sections) day (h .facts) → b ≡ ii8In file h book by day t
+vaccine-in file h book by t own first day b c d e = rw (← c, ← d) e
 
 pub ruleset for-judge-ii8 = (needs, vaccine-in)
 
@@ -53,7 +54,8 @@ unfolding rules16to18At
 live-only t true x y h = rw (h refl)
 live-only t false x y h = refl
 
-module _ (file : Text) (marks : List ℕ) (h : Here) (book : Text) (by : By) (x : Bool) (rx : x ≡ relaxedIn file marks) (k : h .kind ≡ 4) where
+module _ (file : Text) (marks : List ℕ) (h : Here) (book : Text) (by : By) (x : Bool) (rx : x ≡ relaxedIn file marks) (k : h .kind ≡ 4)
+    (day : Day) (ds : day ≡ iiDay (h .day) (h .historical) (by .today)) where
   module _ (s : Setting) (v : Seen) (w : Told file marks h book by s v) where
     abbrev L : Rec
     L = v .line
@@ -64,8 +66,8 @@ module _ (file : Text) (marks : List ℕ) (h : Here) (book : Text) (by : By) (x 
     relaxed-ii : x ≡ isRelaxed (v .line)
     relaxed-ii = rx ∙ relaxed-told file marks h book by s v w
 
-    day-ii : DayIs (h .day) v
-    day-ii = w .day-is (rw kind-ii)
+    day-ii : AskedOn day s v
+    day-ii = subst (λ (d : Day). AskedOn d s v) (sym ds) (ii-asked file marks h book by s v w kind-ii)
 
     bl : Blocked file h v
     bl = w .blocked kind-ii
@@ -80,8 +82,8 @@ module _ (file : Text) (marks : List ℕ) (h : Here) (book : Text) (by : By) (x 
     lack-ii f g t u d e = rw (d, e, lacks-in L f g, relaxed-ii)
 
     code-ii : (f of : ℕ) (t : Text) → t ≡ text (v .line) f → bookKind II f ≡ of → codeRead II (v .line) f ≡ text (v .line) f
-        → codeBy II x f t t book (by .sections) (h .day) ≡ lowest II (v .line) f (codeNumber s v II f of)
-    code-ii f of t e o r = rules4-and-5-low s v by book (h .day) (w .looks) day-ii II f of t x e (inr relaxed-ii) o r
+        → codeBy II x f t t book (by .sections) day ≡ lowest II (v .line) f (codeNumber s v II f of)
+    code-ii f of t e o r = rules4-and-5-low s v by book day (w .looks) day-ii II f of t x e (inr relaxed-ii) o r
 
     at-4 : (t : Text) → t ≡ text (v .line) 4 → listed (ii4Type t (h .facts)) ≡ brokenAt s v 4
     unfolding ii4Type
@@ -99,10 +101,10 @@ module _ (file : Text) (marks : List ℕ) (h : Here) (book : Text) (by : By) (x 
         (masked (h .facts .joined) (λ (os : List Rec). countsSound os && (countsSound first && setsDiffer os first)) own (v .own) (bl .own-is))
         ∙ rw (rule13-sets-back (v .own) first, bl .joined-is, bl .first-is)
 
-    at-8 : (t : Text) → t ≡ text (v .line) 8 → listed (ii8In file h book by t) ≡ brokenAt s v 8
+    at-8 : (t : Text) → t ≡ text (v .line) 8 → listed (ii8In file h book by day t) ≡ brokenAt s v 8
     unfolding ii8Vaccine bookKind codeRead
     at-8 t e =
-        three-same _ _ _ _ _ _ (rules4-and-5-low s v by book (h .day) (w .looks) day-ii II 8 1 t false e (inl refl) refl refl) rule13-8 (rw (bl .repeated-is))
+        three-same _ _ _ _ _ _ (rules4-and-5-low s v by book day (w .looks) day-ii II 8 1 t false e (inl refl) refl refl) rule13-8 (rw (bl .repeated-is))
         ∙ sym (at-ii-8 s v kind-ii)
 
     module _ (t u : Text) where
@@ -124,26 +126,26 @@ module _ (file : Text) (marks : List ℕ) (h : Here) (book : Text) (by : By) (x 
       unfolding ii12Dosage
       at-12 d e = three-same _ _ _ _ _ _ (low-ii 12 t d (λ (y : Text). 0)) (lack-ii 12 13 t u d e) refl ∙ sym (at-ii-12 s v kind-ii)
 
-      at-13 : t ≡ text (v .line) 13 → u ≡ text (v .line) 12 → listed (ii13DosageType x t u book (by .sections) (h .day)) ≡ brokenAt s v 13
+      at-13 : t ≡ text (v .line) 13 → u ≡ text (v .line) 12 → listed (ii13DosageType x t u book (by .sections) day) ≡ brokenAt s v 13
       unfolding ii13DosageType bookKind codeRead
       at-13 d e = three-same _ _ _ _ _ _ (code-ii 13 5 t d refl refl) (lack-ii 13 12 t u d e) refl ∙ sym (at-ii-13 s v kind-ii)
 
     -- the reason
-    code-11 : (t : Text) → t ≡ text (v .line) 11 → codeBy II x 11 t (pad 2 (reasonRead t)) book (by .sections) (h .day) ≡ lowest II (v .line) 11 (codeNumber s v II 11 3)
+    code-11 : (t : Text) → t ≡ text (v .line) 11 → codeBy II x 11 t (pad 2 (reasonRead t)) book (by .sections) day ≡ lowest II (v .line) 11 (codeNumber s v II 11 3)
     unfolding bookKind codeIn codeRead
     code-11 t e =
-        low-ii 11 t e (λ (u : Text). codeOf 3 (pad 2 (reasonRead u)) book (by .sections) (h .day) u)
-        ∙ reason-code book (by .sections) (h .day) L
-        ∙ ap (lowest II L 11) (rules4-and-5-seen s v by book (h .day) (w .looks) day-ii II 11 3 (reasonRead (text L 11)) refl)
+        low-ii 11 t e (λ (u : Text). codeOf 3 (pad 2 (reasonRead u)) book (by .sections) day u)
+        ∙ reason-code book (by .sections) day L
+        ∙ ap (lowest II L 11) (rules4-and-5-seen s v by book day (w .looks) day-ii II 11 3 (reasonRead (text L 11)) refl)
 
-    pair-11 : (t q : Text) → t ≡ text (v .line) 11 → text (v .head) 8 ≡ q → rule11By II t (pad 2 (reasonRead t)) q book (by .sections) (h .day) ≡ pairNumber s v II 11 3 7
+    pair-11 : (t q : Text) → t ≡ text (v .line) 11 → text (v .head) 8 ≡ q → rule11By II t (pad 2 (reasonRead t)) q book (by .sections) day ≡ pairNumber s v II 11 3 7
     unfolding bookKind pairField pairKind codeIn codeRead pairIn
     pair-11 t q e he =
-        reason-pair book (by .sections) (h .day) t q
-        ∙ rule11-pair-seen s v by book (h .day) (w .looks) day-ii II 11 3 (reasonRead t) 7 t q e he (rw e)
+        reason-pair book (by .sections) day t q
+        ∙ rule11-pair-seen s v by book day (w .looks) day-ii II 11 3 (reasonRead t) 7 t q e he (rw e)
         (ap (λ (n : ℕ). codeText (pairKind n) (text (v .head) 8) (codeRead n (v .line) 11)) kind-ii ∙ rw (he, e))
 
-    at-11 : (t q : Text) → t ≡ text (v .line) 11 → text (v .head) 8 ≡ q → listed (ii11Reason x t q book (by .sections) (h .day)) ≡ brokenAt s v 11
+    at-11 : (t q : Text) → t ≡ text (v .line) 11 → text (v .head) 8 ≡ q → listed (ii11Reason x t q book (by .sections) day) ≡ brokenAt s v 11
     unfolding ii11Reason
     at-11 t q e he = three-same _ _ _ _ _ _ (code-11 t e) (pair-11 t q e he) refl ∙ sym (at-ii-11 s v kind-ii)
 
@@ -160,7 +162,7 @@ module _ (file : Text) (marks : List ℕ) (h : Here) (book : Text) (by : By) (x 
     pub need-ii-4 : f ≡ 4 → b ≡ ii4Type t (h .facts) → Judges file marks h book by f b
     need-ii-4 e p = judges-at file marks h book by f b t d 4 (omega arith) e (λ s v w c. rw p (at-4 s v w t c))
 
-    pub need-ii-8 : f ≡ 8 → b ≡ ii8In file h book by t → Judges file marks h book by f b
+    pub need-ii-8 : f ≡ 8 → b ≡ ii8In file h book by day t → Judges file marks h book by f b
     need-ii-8 e p = judges-at file marks h book by f b t d 8 (omega arith) e (λ s v w c. rw p (at-8 s v w t c))
 
     module _ (u : Text) where
@@ -172,14 +174,14 @@ module _ (file : Text) (marks : List ℕ) (h : Here) (book : Text) (by : By) (x 
       need-ii-10 e g p =
           judges-at file marks h book by f b t d 10 (omega arith) e (λ s v w c. rw p (at-10 s v w u t (g ∙ text-told file marks h book by s v w 9 (omega arith)) c))
 
-      pub need-ii-11 : f ≡ 11 → u ≡ part file (h .vaccine .start) (h .vaccine .end) → b ≡ ii11Reason x t u book (by .sections) (h .day) → Judges file marks h book by f b
+      pub need-ii-11 : f ≡ 11 → u ≡ part file (h .vaccine .start) (h .vaccine .end) → b ≡ ii11Reason x t u book (by .sections) day → Judges file marks h book by f b
       need-ii-11 e g p = judges-at file marks h book by f b t d 11 (omega arith) e (λ s v w c. rw p (at-11 s v w t u c (vaccine-ii s v w u g)))
 
       pub need-ii-12 : f ≡ 12 → u ≡ judgedIn file marks 13 → b ≡ ii12Dosage x t u → Judges file marks h book by f b
       need-ii-12 e g p =
           judges-at file marks h book by f b t d 12 (omega arith) e (λ s v w c. rw p (at-12 s v w t u c (g ∙ text-told file marks h book by s v w 13 (omega arith))))
 
-      pub need-ii-13 : f ≡ 13 → u ≡ judgedIn file marks 12 → b ≡ ii13DosageType x t u book (by .sections) (h .day) → Judges file marks h book by f b
+      pub need-ii-13 : f ≡ 13 → u ≡ judgedIn file marks 12 → b ≡ ii13DosageType x t u book (by .sections) day → Judges file marks h book by f b
       need-ii-13 e g p =
           judges-at file marks h book by f b t d 13 (omega arith) e (λ s v w c. rw p (at-13 s v w t u c (g ∙ text-told file marks h book by s v w 12 (omega arith))))
 
@@ -199,12 +201,12 @@ module _ (file : Text) (marks : List ℕ) (h : Here) (book : Text) (by : By) (x 
           (λ s v w c.
           rw (p, z) (rule8-date-broken s v t 4 6 (by .today) (h .born) c (ii-6 (v .line)) (w .looks .today-is) (w .born-is) refl (at-ii-6 s v (kind-ii s v w))))
 
-      pub need-ii-14 : f ≡ 14 → n ≡ codeBy 4 x 14 t t book (by .sections) (h .day) → Judges file marks h book by f b
+      pub need-ii-14 : f ≡ 14 → n ≡ codeBy 4 x 14 t t book (by .sections) day → Judges file marks h book by f b
       unfolding bookKind codeRead
       need-ii-14 e z =
           judges-at file marks h book by f b t d 14 (omega arith) e
           (λ s v w c.
-          rw (p, z) (rules4-and-5-broken s v by book (h .day) (w .looks) (day-ii s v w) 4 14 4 x t c (inr (relaxed-ii s v w)) refl refl (at-ii-14 s v (kind-ii s v w))))
+          rw (p, z) (rules4-and-5-broken s v by book day (w .looks) (day-ii s v w) 4 14 4 x t c (inr (relaxed-ii s v w)) refl refl (at-ii-14 s v (kind-ii s v w))))
 
       pub need-ii-15 : f ≡ 15 → (q : Text) → q ≡ part file (h .block) (h .at) → n ≡ lowestIn 4 x 15 t (rule14By t (recs q)) → Judges file marks h book by f b
       need-ii-15 e q g z = judges-at file marks h book by f b t d 15 (omega arith) e (λ s v w c. rw (p, z) (at-15 s v w t q c g))

@@ -16,7 +16,7 @@ use Rattle.lines_fields.specs.Marks.{marksAt, judgedSpan}
 use Rattle.lines_fields.specs.Inside.{part}
 use Rattle.lines.specs.Records.{Rec, IP, II, IE, IN, IA, isKind, recs}
 use Rattle.ledger.specs.Ledger.{Event, foundIn}
-use Rattle.rules_definitions.specs.Forms.{text, isSound}
+use Rattle.rules_definitions.specs.Forms.{text, isHistorical, isSound}
 use Rattle.rules_definitions.specs.Contexts.{Context, nearest, headKind, headOf}
 use Rattle.rules_definitions.specs.Blocks.{isInBlock, eventOf, beforeBlock}
 use Rattle.rules_definitions.specs.Seen.{Setting, Seen, seenAt}
@@ -28,11 +28,11 @@ use Rattle.rules_walk.proofs.StartLaws.{start-upto}
 use Rattle.rules.specs.declared.State.{State}
 use Rattle.rules.specs.declared.Here.{Here}
 use Rattle.rules.specs.declared.By.{By}
-use Rattle.rules_fields.specs.declared.Day.{Day}
+use Rattle.rules.specs.declared.DayRead.{DayRead}
 use Rattle.rules.specs.Under.{withRepeated, repeatedBy, seenBy}
 use Rattle.rules_plain.specs.PlainFields.{bornOf}
 use Rattle.rules.specs.Fields.{DayIs, Looks, Blocked, Told}
-use Rattle.rules.specs.Walk.{partOf, lineRec, linesBefore, oneDay, noDay, dayOf, Holds, factsBy, vaccineBy, dayBy, hereWith, HereIs}
+use Rattle.rules.specs.Walk.{partOf, lineRec, linesBefore, oneDay, noDay, dayOf, Holds, factsBy, historicalBy, vaccineBy, dayBy, hereWith, HereIs}
 use Rattle.rules.proofs.SeenLaws as seen
 
 -- the day of birth
@@ -40,7 +40,7 @@ born-is : (ip : Rec) → bornOf ip ≡ dayOf (text ip 25) .number
 unfolding dayOf bornOf
 born-is ip = rw (ip-25 ip) (go (isDate (text ip 25)))
   where
-    go : (t : Bool) → cond t (number (text ip 25)) 0 ≡ (cond {A = Day} t (oneDay (number (text ip 25))) noDay) .number
+    go : (t : Bool) → cond t (number (text ip 25)) 0 ≡ (cond {A = DayRead} t (oneDay (number (text ip 25))) noDay) .number
     go true = refl
     go false = refl
 
@@ -49,7 +49,7 @@ day-sound : (t : Text) → dayOf t .sound ≡ isDate t
 unfolding dayOf
 day-sound t = go (isDate t)
   where
-    go : (b : Bool) → (cond {A = Day} b (oneDay (number t)) noDay) .sound ≡ b
+    go : (b : Bool) → (cond {A = DayRead} b (oneDay (number t)) noDay) .sound ≡ b
     go true = refl
     go false = refl
 
@@ -57,14 +57,14 @@ day-number : (t : Text) → dayOf t .sound ≡ true → number t ≡ dayOf t .nu
 unfolding dayOf
 day-number t = go (isDate t)
   where
-    go : (b : Bool) → (cond {A = Day} b (oneDay (number t)) noDay) .sound ≡ true
-        → number t ≡ (cond {A = Day} b (oneDay (number t)) noDay) .number
+    go : (b : Bool) → (cond {A = DayRead} b (oneDay (number t)) noDay) .sound ≡ true
+        → number t ≡ (cond {A = DayRead} b (oneDay (number t)) noDay) .number
     go true e = refl
     go false e = clash (cc)
 
 -- the day of the record that a line of kind k belongs to
 module _ (v : Seen) (k j f : ℕ) (e : v .line .kind ≡ k) (a : headKind k ≡ j) (b : dayField j ≡ f) (c : isSound j (v .head) f ≡ isDate (text (v .head) f)) where
-  dated : DayIs (dayOf (text (v .head) f)) v
+  dated : DayIs (dayOf (text (v .head) f) .sound) (dayOf (text (v .head) f) .number) v
   unfolding dayIsSound recordDay
   dated =
       record {
@@ -110,6 +110,20 @@ module _ (file : Text) (at : ℕ) (st : State) (h : Holds file at st) (less : at
   head-ia : k ≡ 7 → nearest IN before ≡ headOf L before
   head-ia m = sym (head-of ∙ rw m)
 
+  historical-told : within II IE k ≡ true → isHistorical (text (headOf L before) 5) ≡ y .historical
+  unfolding historicalBy
+  historical-told w =
+      let p = both (leb 4 k) (leb k 5) w in
+      rw (head-of, seen.historical-is file at st h less table ledger live y i) (go (eqb k II) (eqb k IE) (eqb k IA) refl refl refl (leb-true 4 k (p .0)) (leb-true k 5 (p .1)))
+    where
+      go : (a b c : Bool) → eqb k II ≡ a → eqb k IE ≡ b → eqb k IA ≡ c → 4 ≤ k → k ≤ 5
+          → isHistorical (text (cond b (nearest II before) (cond c (nearest IN before) L)) 5) ≡ cond a (isHistorical (text L 5)) (st .known .historical)
+      go true true c p q r lo hi = let m : k ≡ 4 = eqb-true k 4 p in let n : k ≡ 5 = eqb-true k 5 q in absurd (omega (arith, m, n))
+      go true false true p q r lo hi = let m : k ≡ 4 = eqb-true k 4 p in let n : k ≡ 7 = eqb-true k 7 r in absurd (omega (arith, m, n))
+      go true false false p q r lo hi = refl
+      go false true c p q r lo hi = sym (h .known-is .historical-is)
+      go false false c p q r lo hi = absurd (omega (arith, eqb-false k 4 p, eqb-false k 5 q))
+
   vaccine-told : within II IE k ≡ true → text (headOf L before) 8 ≡ partOf file (y .vaccine)
   unfolding vaccineBy
   vaccine-told w =
@@ -124,7 +138,7 @@ module _ (file : Text) (at : ℕ) (st : State) (h : Holds file at st) (less : at
       go false true c p q r lo hi = h .known-is .vaccine-is
       go false false c p q r lo hi = absurd (omega (arith, eqb-false k 4 p, eqb-false k 5 q))
 
-  day-told : within II IA k ≡ true → DayIs (y .day) view
+  day-told : within II IA k ≡ true → DayIs (y .day .sound) (y .day .number) view
   unfolding withRepeated seenAt headKind dayField dayBy
   day-told w =
       let p = both (leb 4 k) (leb k 7) w in
@@ -133,10 +147,10 @@ module _ (file : Text) (at : ℕ) (st : State) (h : Holds file at st) (less : at
       is : y .day ≡ dayBy L k (st .known .«ii_day») (st .known .«in_day»)
       is = seen.day-is file at st h less table ledger live y i
 
-      by : (d : Text) (f : ℕ) → y .day ≡ dayOf (text (headOf L before) f) → DayIs (dayOf (text (headOf L before) f)) view → DayIs (y .day) view
-      by d f e x = subst (λ (z : Day). DayIs z view) (sym e) x
+      by : (d : Text) (f : ℕ) → y .day ≡ dayOf (text (headOf L before) f) → DayIs (dayOf (text (headOf L before) f) .sound) (dayOf (text (headOf L before) f) .number) view → DayIs (y .day .sound) (y .day .number) view
+      by d f e x = subst (λ (z : DayRead). DayIs (z .sound) (z .number) view) (sym e) x
 
-      go : (a b c : Bool) → eqb k II ≡ a → eqb k IE ≡ b → eqb k IN ≡ c → 4 ≤ k → k ≤ 7 → DayIs (y .day) view
+      go : (a b c : Bool) → eqb k II ≡ a → eqb k IE ≡ b → eqb k IN ≡ c → 4 ≤ k → k ≤ 7 → DayIs (y .day .sound) (y .day .number) view
       go true b c p q r lo hi =
           let m : k ≡ 4 = eqb-true k 4 p in
           by (text L 6) 6 (is ∙ rw m (ap (λ (l : Rec). dayOf (text l 6)) (head-ii m))) (dated view k 4 6 kind-is (rw m) refl (ii-6 (headOf L before)))
@@ -228,6 +242,7 @@ module _ (file : Text) (at : ℕ) (st : State) (h : Holds file at st) (less : at
           uli-is = h .known-is .uli-is ∙ ap (partOf file) (sym uli-is);
           born-is = born-is (nearest IP before) ∙ sym (birth-is ∙ h .known-is .born-is);
           day-is = λ w. day-told (ap (within II IA) (sym kind-is) ∙ w);
+          historical-is = λ w. historical-told (ap (within II IE) (sym kind-is) ∙ w);
           vaccine-is = λ w. vaccine-told (ap (within II IE) (sym kind-is) ∙ w);
           antigens-are = h .since-is .are ∙ ap (λ (n : ℕ). reverse (recs (part file n at))) (sym since-is) ∙ ap (λ (n : ℕ). reverse (recs (part file (y .since) n))) (sym at-is);
           blocked = λ z. blocked;

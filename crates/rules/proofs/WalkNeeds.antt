@@ -17,7 +17,7 @@ use Rattle.rules.specs.declared.Known.{Known}
 use Rattle.rules.specs.declared.Block.{Block}
 use Rattle.rules.specs.declared.State.{State}
 use Rattle.rules.specs.declared.Here.{Here}
-use Rattle.rules_fields.specs.declared.Day.{Day}
+use Rattle.rules.specs.declared.DayRead.{DayRead}
 use Rattle.rules.specs.Walk.{recIn, dayOf, noOpen, noDay, startState}
 use Rattle.rules.specs.Advance.{nextPlace, nextUli, nextBorn, nextDay, nextSince, openIn, nextOpen, nextRun, nextMany, nextFirst, nextNotImmunized, nextKnown, nextBlock, advanced}
 
@@ -45,19 +45,19 @@ module _ (k : ℕ) where
   unfolding nextUli
   uli-same file m was h = simp (ne-eqb _ _ h)
 
-  pub born-here : (l : Rec) (was : ℕ) (d : Day) → k ≡ IP → d ≡ dayOf (text l 25) → d .number ≡ nextBorn l k was
+  pub born-here : (l : Rec) (was : ℕ) (d : DayRead) → k ≡ IP → d ≡ dayOf (text l 25) → d .number ≡ nextBorn l k was
   unfolding nextBorn
-  born-here l was d h e = ap (λ (x : Day). x .number) e ∙ simp (eq-eqb _ _ h)
+  born-here l was d h e = ap (λ (x : DayRead). x .number) e ∙ simp (eq-eqb _ _ h)
 
   pub born-same : (l : Rec) (was : ℕ) → (k ≡ IP → ⊥) → was ≡ nextBorn l k was
   unfolding nextBorn
   born-same l was h = simp (ne-eqb _ _ h)
 
-  pub day-here : (j : ℕ) (was day : Day) → k ≡ j → day ≡ nextDay j was k day
+  pub day-here : (j : ℕ) (was day : DayRead) → k ≡ j → day ≡ nextDay j was k day
   unfolding nextDay
   day-here j was day h = simp (eq-eqb _ _ h)
 
-  pub day-same : (j : ℕ) (was day : Day) → (k ≡ j → ⊥) → was ≡ nextDay j was k day
+  pub day-same : (j : ℕ) (was day : DayRead) → (k ≡ j → ⊥) → was ≡ nextDay j was k day
   unfolding nextDay
   day-same j was day h = simp (ne-eqb _ _ h)
 
@@ -164,9 +164,9 @@ open-is file m a b c d p q r s = rw (p, q, r, s)
 pub ruleset for-open-of = (needs, open-is)
 
 -- next_known
-pub known-is : (file : Text) (m : List ℕ) (was : Known) (h : Here) (u : Span) (b : ℕ) (x y : Day) → u ≡ nextUli file m (h .kind) (was .uli)
+pub known-is : (file : Text) (m : List ℕ) (was : Known) (h : Here) (u : Span) (b : ℕ) (x y : DayRead) → u ≡ nextUli file m (h .kind) (was .uli)
     → b ≡ nextBorn (recIn file m) (h .kind) (was .born) → x ≡ nextDay 4 (was .«ii_day») (h .kind) (h .day) → y ≡ nextDay 6 (was .«in_day») (h .kind) (h .day)
-    → _≡_ {A = Known} (record { uli = u; born = b; vaccine = h .vaccine; «ii_day» = x; «in_day» = y }) (nextKnown file m was h)
+    → _≡_ {A = Known} (record { uli = u; born = b; historical = h .historical; vaccine = h .vaccine; «ii_day» = x; «in_day» = y }) (nextKnown file m was h)
 unfolding nextKnown
 known-is file m was h u b x y e1 e2 e3 e4 = rw (e1, e2, e3, e4)
 
@@ -196,7 +196,7 @@ pub start-is : (o : Open) → o ≡ noOpen
     → _≡_ {A = State} (record {
       n = 1;
       place = 1;
-      known = record { uli = span 0 0; born = 0; vaccine = span 0 0; «ii_day» = noDay; «in_day» = noDay };
+      known = record { uli = span 0 0; born = 0; historical = false; vaccine = span 0 0; «ii_day» = noDay; «in_day» = noDay };
       since = 0;
       block = record { last = o; run = 0; many = false; first = span 0 0 };
       «not_immunized» = 0;

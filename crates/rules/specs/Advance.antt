@@ -10,11 +10,11 @@ use Rattle.lines_fields.specs.Marks.{span, judgedSpan}
 use Rattle.lines.specs.Records.{Rec, IP, II, IE, IN, IA}
 use Rattle.rules_definitions.specs.Forms.{text}
 use Rattle.rules.specs.declared.Open.{Open}
+use Rattle.rules.specs.declared.DayRead.{DayRead}
 use Rattle.rules.specs.declared.Known.{Known}
 use Rattle.rules.specs.declared.Block.{Block}
 use Rattle.rules.specs.declared.State.{State}
 use Rattle.rules.specs.declared.Here.{Here}
-use Rattle.rules_fields.specs.declared.Day.{Day}
 use Rattle.rules.specs.Walk.{recIn, dayOf, noOpen}
 
 -- By the line's marks and what is known of it
@@ -29,7 +29,7 @@ unfoldable pub nextBorn : Rec → ℕ → ℕ → ℕ
 nextBorn l k was = cond (eqb k IP) (dayOf (text l 25) .number) was
 
 -- the day of the nearest line of kind j
-unfoldable pub nextDay : ℕ → Day → ℕ → Day → Day
+unfoldable pub nextDay : ℕ → DayRead → ℕ → DayRead → DayRead
 nextDay j was k day = cond (eqb k j) day was
 
 unfoldable pub nextSince : ℕ → ℕ → ℕ → ℕ
@@ -58,6 +58,7 @@ nextKnown file m was h =
     record {
       uli = nextUli file m (h .kind) (was .uli);
       born = nextBorn (recIn file m) (h .kind) (was .born);
+      historical = h .historical;
       vaccine = h .vaccine;
       «ii_day» = nextDay II (was .«ii_day») (h .kind) (h .day);
       «in_day» = nextDay IN (was .«in_day») (h .kind) (h .day);

@@ -11,18 +11,19 @@ use Rattle.lines_fields.specs.Lines.{lineOf}
 use Rattle.lines_fields.specs.Marks.{marksAt, judgedIn}
 use Rattle.lines_fields.specs.Inside.{part}
 use Rattle.lines.specs.Records.{IV, IH, IP, II, IE, IN, IA, IF, isKind, recOf, recs}
-use Rattle.rules_definitions.specs.Forms.{text}
+use Rattle.rules_definitions.specs.Forms.{text, isHistorical}
 use Rattle.rules_definitions.specs.Seen.{Setting, Seen}
-use Rattle.rules_definitions.specs.Codes.{dayIsSound, recordDay}
+use Rattle.rules_definitions.specs.Codes.{dayIsSound, recordDay, allowsEnded}
 use Rattle.rules_definitions.specs.Rules.{Numbered, rulesAt, brokenBy, brokenAt}
 use Rattle.rules_definitions.specs.Findings.{fieldsFindings}
 use Rattle.rules_forms.specs.FieldLeaves.{relaxedIf}
 use Rattle.rules_plain.specs.PlainFields.{bornOf}
 use Rattle.rules_fields.specs.declared.Broken.{Broken}
 use Rattle.rules_fields.specs.declared.Day.{Day}
-use Rattle.book.specs.LookUp.{knownBy, inForceBy}
-use Rattle.rules_fields.specs.Fields.{ii8Vaccine}
+use Rattle.book.specs.LookUp.{knownBy, inForceBy, endedBy}
+use Rattle.rules_fields.specs.Fields.{anyEnd, ii8Vaccine}
 use Rattle.rules.specs.declared.By.{By}
+use Rattle.rules.specs.declared.DayRead.{DayRead}
 use Rattle.rules.specs.declared.Here.{Here}
 use Rattle.rules.specs.Inside.{kept, keep, listed}
 
@@ -37,15 +38,29 @@ laterAt s v f = brokenBy s v f (those isLater (rulesAt s (v .line .kind) f))
 -- WHAT IS TOLD OF WHAT IS SEEN FROM A LINE, AND OF WHAT THE FILE IS JUDGED BY
 
 -- the record's day
-pub record DayIs (day : Day) (v : Seen) : Type 0 where
-  pub sound-is : dayIsSound v ≡ day .sound
-  pub number-is : day .sound ≡ true → recordDay v ≡ day .number
+pub record DayIs (sound : Bool) (number : ℕ) (v : Seen) : Type 0 where
+  pub sound-is : dayIsSound v ≡ sound
+  pub number-is : sound ≡ true → recordDay v ≡ number
+
+-- the day of a record, whose codes are not to have ended before another
+abbrev pub dayUntil : DayRead → ℕ → Day
+dayUntil day until = record { sound = day .sound; number = day .number; until = until }
+
+-- the day of an II, by whether II 5 is H
+abbrev pub iiDay : DayRead → Bool → ℕ → Day
+iiDay day historical today = dayUntil day (cond historical anyEnd today)
+
+-- the record's day, and the day that its codes are not to have ended before
+pub record AskedOn (day : Day) (s : Setting) (v : Seen) : Type 0 where
+  pub day-is : DayIs (day .sound) (day .number) v
+  pub until-is : day .until ≡ cond (allowsEnded v) anyEnd (s .today)
 
 -- today, and what look-ups in the book say
 pub record Looks (by : By) (book : Text) (s : Setting) : Type 0 where
   pub today-is : s .today ≡ by .today
   pub known-is : s .known ≡ knownBy book (by .sections)
   pub force-is : s .in-force ≡ inForceBy book (by .sections)
+  pub ended-is : s .ended ≡ endedBy book (by .sections)
 
 -- what an II shows of its block: the earlier II lines of it, its own IE lines where it joins the block, and those of its first II
 pub record Blocked (file : Text) (h : Here) (v : Seen) : Type 0 where
@@ -67,7 +82,8 @@ pub record Told (file : Text) (marks : List ℕ) (h : Here) (book : Text) (by : 
   pub place-is : v .place ≡ h .place
   pub uli-is : text (v .ip) 3 ≡ part file (h .uli .start) (h .uli .end)
   pub born-is : bornOf (v .ip) ≡ h .born
-  pub day-is : within II IA (v .line .kind) ≡ true → DayIs (h .day) v
+  pub day-is : within II IA (v .line .kind) ≡ true → DayIs (h .day .sound) (h .day .number) v
+  pub historical-is : within II IE (v .line .kind) ≡ true → isHistorical (text (v .head) 5) ≡ h .historical
   pub vaccine-is : within II IE (v .line .kind) ≡ true → text (v .head) 8 ≡ part file (h .vaccine .start) (h .vaccine .end)
   pub antigens-are : v .antigens ≡ reverse (recs (part file (h .since) (h .at)))
   pub blocked : v .line .kind ≡ II → Blocked file h v
@@ -99,8 +115,8 @@ unfoldable pub relaxedIn : Text → List ℕ → Bool
 relaxedIn file marks = relaxedIf (judgedIn file marks 5) (judgedIn file marks 18) (judgedIn file marks 19) (judgedIn file marks 20)
 
 -- what is broken at II 8 with this text
-abbrev pub ii8In : Text → Here → Text → By → Text → Broken
-ii8In file h book by t = ii8Vaccine t (part file (h .next) (h .own)) (part file (h .first .start) (h .first .end)) book (by .sections) (h .day) (h .facts)
+abbrev pub ii8In : Text → Here → Text → By → Day → Text → Broken
+ii8In file h book by day t = ii8Vaccine t (part file (h .next) (h .own)) (part file (h .first .start) (h .first .end)) book (by .sections) day (h .facts)
 
 -- THE FIELDS OF A LINE ONE AFTER THE OTHER
 

@@ -6,7 +6,7 @@ use lib.ListN.{take}
 use Rattle.house.specs.Text.{Text}
 use Rattle.ledger.specs.Ledger.{foundIn}
 use Rattle.rules_definitions.specs.Seen.{Setting}
-use Rattle.book.specs.LookUp.{knownBy, inForceBy}
+use Rattle.book.specs.LookUp.{knownBy, inForceBy, endedBy}
 use Rattle.rules.specs.declared.By.{By}
 
 -- the book that bytes start with, by its sections
@@ -20,5 +20,6 @@ settingBy by book ledger =
       today = by .today;
       known = knownBy book (by .sections);
       in-force = inForceBy book (by .sections);
+      ended = endedBy book (by .sections);
       live = foundIn ledger (by .live);
     }

@@ -17,17 +17,17 @@ use Rattle.lines.specs.Inside.{whole}
 use Rattle.lines_fields.specs.Inside.{part}
 use Rattle.ledger.specs.Ledger.{foundIn}
 use Rattle.rules_walk.specs.Repeats.{isNoted}
-use Rattle.rules_definitions.specs.Forms.{text}
+use Rattle.rules_definitions.specs.Forms.{text, isHistorical}
 use Rattle.rules_definitions.specs.Contexts.{nearest, isNumbered}
 use Rattle.rules_definitions.specs.Blocks.{isInBlock, eventOf, nearestOf, openAfter, hasSecond, firstOpen, beforeOpen}
 use Rattle.rules.specs.declared.Open.{Open}
+use Rattle.rules.specs.declared.DayRead.{DayRead}
 use Rattle.rules.specs.declared.Known.{Known}
 use Rattle.rules.specs.declared.State.{State}
 use Rattle.rules.specs.declared.Read.{Read}
 use Rattle.rules.specs.declared.BlockAt.{BlockAt}
 use Rattle.rules.specs.declared.Here.{Here}
 use Rattle.rules_fields.specs.declared.Facts.{Facts}
-use Rattle.rules_fields.specs.declared.Day.{Day}
 
 abbrev pub partOf : Text → Span → Text
 partOf s p = part s (p .start) (p .end)
@@ -67,14 +67,14 @@ pub record LinesAre (file : Text) (at : ℕ) (p : Span) (ls : List Rec) : Type 0
   pub upto : p .end ≤ at
 
 -- a day of this number, and none
-abbrev pub oneDay : ℕ → Day
+abbrev pub oneDay : ℕ → DayRead
 oneDay n = record { sound = true; number = n }
 
-abbrev pub noDay : Day
+abbrev pub noDay : DayRead
 noDay = record { sound = false; number = 0 }
 
 -- the day that a text gives, if it is a date
-unfoldable pub dayOf : Text → Day
+unfoldable pub dayOf : Text → DayRead
 dayOf t = cond (isDate t) (oneDay (number t)) noDay
 
 -- where fields 3, 4, 6 and 8 of a line stand
@@ -88,6 +88,7 @@ pub record OpenIs (file : Text) (o : Open) (l : Rec) : Type 0 where
 pub record KnownIs (file : Text) (before : List Rec) (k : Known) : Type 0 where
   pub uli-is : text (nearest IP before) 3 ≡ partOf file (k .uli)
   pub born-is : k .born ≡ dayOf (text (nearest IP before) 25) .number
+  pub historical-is : k .historical ≡ isHistorical (text (nearest II before) 5)
   pub vaccine-is : text (nearest II before) 8 ≡ partOf file (k .vaccine)
   pub ii-day-is : k .«ii_day» ≡ dayOf (text (nearest II before) 6)
   pub in-day-is : k .«in_day» ≡ dayOf (text (nearest IN before) 5)
@@ -121,7 +122,7 @@ startState =
     record {
       n = 1;
       place = 1;
-      known = record { uli = span 0 0; born = 0; vaccine = span 0 0; «ii_day» = noDay; «in_day» = noDay };
+      known = record { uli = span 0 0; born = 0; historical = false; vaccine = span 0 0; «ii_day» = noDay; «in_day» = noDay };
       since = 0;
       block = record { last = noOpen; run = 0; many = false; first = span 0 0 };
       «not_immunized» = 0;
@@ -154,12 +155,16 @@ factsBy l table ledger n b =
       live = b .inb && foundIn ledger n (eventOf l);
     }
 
+-- its II 5 is H
+unfoldable pub historicalBy : Rec → ℕ → Bool → Bool
+historicalBy l k was = cond (eqb k II) (isHistorical (text l 5)) was
+
 -- the vaccine of its II
 unfoldable pub vaccineBy : Text → List ℕ → ℕ → Span → Span
 vaccineBy file m k was = cond (eqb k II) (judgedSpan file m 8) was
 
 -- the day of the record that it belongs to
-unfoldable pub dayBy : Rec → ℕ → Day → Day → Day
+unfoldable pub dayBy : Rec → ℕ → DayRead → DayRead → DayRead
 dayBy l k ii-day in-day = cond (eqb k II) (dayOf (text l 6)) (cond (eqb k IE) ii-day (cond (eqb k IN) (dayOf (text l 5)) in-day))
 
 -- the IE lines from a position on end at r
@@ -177,6 +182,7 @@ unfoldable pub hereWith : Text → List ℕ → Read → State → BlockAt → F
 hereWith file m r st b facts own =
     record {
       kind = r .kind;
+      historical = historicalBy (recIn file m) (r .kind) (st .known .historical);
       n = st .n;
       place = st .place;
       at = r .at;

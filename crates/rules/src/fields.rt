@@ -1,5 +1,6 @@
 // The rules that are broken at a field, by the kind of its record and its number. Each text is a part of the file that was found before.
 use crate::By;
+use crate::DayRead;
 use crate::Here;
 use lines::IA;
 use lines::IE;
@@ -9,7 +10,9 @@ use lines::IV;
 use lines_fields::Span;
 use lines_fields::judged;
 use lines_fields::part;
+use rules_fields::ANY_END;
 use rules_fields::Broken;
+use rules_fields::Day;
 use rules_fields::code_field;
 use rules_fields::ie4_antigen;
 use rules_forms::rules1_and_2;
@@ -23,7 +26,7 @@ ghost use Prim.Native.Nat.{_≤_};
 ghost use Rattle.house.specs.Text.{Text};
 ghost use Rattle.lines_fields.specs.Inside.{part};
 ghost use Rattle.rules.specs.declared.By.{By};
-ghost use Rattle.rules.specs.Fields.{Judges};
+ghost use Rattle.rules.specs.Fields.{dayUntil, iiDay, Judges};
 
 // One rule, or none.
 pub(crate) fn one(a: u8) -> Broken
@@ -37,6 +40,28 @@ pub(crate) fn span_text(file: &[u8], p: Span) -> &[u8]
     ensures { λ r. ⌜ now r ≡ part (now (file .entry)) (p .start) (p .end) ⌝ }
 {
     part(file, p.start, p.end)
+}
+
+// The day of a record, whose codes are not to have ended before another.
+fn day_until(day: DayRead, until: u32) -> Day
+    ensures { λ r. ⌜ r ≡ dayUntil day until ⌝ }
+{
+    Day {
+        sound: day.sound,
+        number: day.number,
+        until,
+    }
+}
+
+// The day of an II: only where II 5 is H may its codes, and those of its IE, have ended before today.
+pub(crate) fn ii_day(day: DayRead, historical: bool, today: u32) -> Day
+    ensures { λ r. ⌜ r ≡ iiDay day historical today ⌝ }
+{
+    if historical {
+        day_until(day, ANY_END)
+    } else {
+        day_until(day, today)
+    }
 }
 
 // Field f of a line whose kind has no later rules.
@@ -101,7 +126,8 @@ pub(crate) fn judge_ie(
         4 => {
             let vaccine = span_text(file, here.vaccine);
             let since = part(file, here.since, here.at);
-            ie4_antigen(t, vaccine, since, book, by.sections, here.day)
+            let day = ii_day(here.day, here.historical, by.today);
+            ie4_antigen(t, vaccine, since, book, by.sections, day)
         }
         _ => one(rules1_and_2(IE, false, f, t)),
     }
@@ -125,7 +151,10 @@ pub(crate) fn judge_in(
         2 => one(field2_number(IN, t, here.place)),
         3 => one(field3_uli(IN, t, span_text(file, here.uli))),
         5 => one(in5_date(t, by.today, here.born)),
-        6 => one(code_field(IN, false, 6, t, t, book, by.sections, here.day)),
+        6 => {
+            let day = day_until(here.day, ANY_END);
+            one(code_field(IN, false, 6, t, t, book, by.sections, day))
+        }
         _ => one(rules1_and_2(IN, false, f, t)),
     }
 }
@@ -147,7 +176,10 @@ pub(crate) fn judge_ia(
     match f {
         2 => one(field2_number(IA, t, here.place)),
         3 => one(field3_uli(IA, t, span_text(file, here.uli))),
-        4 => one(code_field(IA, false, 4, t, t, book, by.sections, here.day)),
+        4 => {
+            let in_day = day_until(here.day, ANY_END);
+            one(code_field(IA, false, 4, t, t, book, by.sections, in_day))
+        }
         _ => one(rules1_and_2(IA, false, f, t)),
     }
 }

@@ -11,7 +11,6 @@ mod walk;
 use book::Sections;
 use lines_fields::Span;
 pub use pass::judge;
-use rules_fields::Day;
 use rules_fields::Facts;
 pub use rules_walk::MOST_BYTES;
 pub use rules_walk::count_of;
@@ -25,11 +24,18 @@ pub struct By {
     pub live: usize,
 }
 
-// What is known at a line beside its marks, as `Seen` has it: its kind, its number, its place; where it and the next line start; its IP's ULI
-// and day of birth; its II's vaccine; the day of its II or IN; where the IE lines just before it start; where its block starts; where its own
-// IE lines end, and those of its block's first II; and what the table of repeats and the ledger say of it.
+// A day that a field gives: whether it is one, and its number.
+struct DayRead {
+    sound: bool,
+    number: u32,
+}
+
+// What is known at a line beside its marks, as `Seen` has it: its kind; whether its II 5 is H; its number, its place; where it and the next
+// line start; its IP's ULI and day of birth; its II's vaccine; the day of its II or IN; where the IE lines just before it start; where its
+// block starts; where its own IE lines end, and those of its block's first II; and what the table of repeats and the ledger say of it.
 struct Here {
     kind: u8,
+    historical: bool,
     n: usize,
     place: usize,
     at: usize,
@@ -37,7 +43,7 @@ struct Here {
     uli: Span,
     born: u32,
     vaccine: Span,
-    day: Day,
+    day: DayRead,
     since: usize,
     block: usize,
     own: usize,
@@ -53,13 +59,14 @@ struct Open {
     vaccine: Span,
 }
 
-// What later lines ask of the nearest IP, II and IN: the ULI and the day of birth, the vaccine and the day, and the day.
+// What later lines ask of the nearest IP, II and IN: the ULI and the day of birth; whether II 5 is H, the vaccine and the day; and the day.
 struct Known {
     uli: Span,
     born: u32,
+    historical: bool,
     vaccine: Span,
-    ii_day: Day,
-    in_day: Day,
+    ii_day: DayRead,
+    in_day: DayRead,
 }
 
 // The block that is open: its nearest II, where it starts, whether it has a second II, and the IE lines of its first.

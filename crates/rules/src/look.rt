@@ -1,5 +1,7 @@
-// What is known of a line before its fields are judged: where it and its own IE lines stand, its block, its vaccine and its day.
+// What is known of a line before its fields are judged: where it and its own IE lines stand, its block, whether II 5 is H, its vaccine
+// and its day.
 use crate::BlockAt;
+use crate::DayRead;
 use crate::Here;
 use crate::Read;
 use crate::State;
@@ -12,7 +14,6 @@ use lines_fields::Span;
 use lines_fields::judged;
 use lines_fields::judged_span;
 use lines_fields::part;
-use rules_fields::Day;
 use rules_fields::Facts;
 ghost use mathlib.Core.Path.{_≡_};
 ghost use mathlib.Core.Bool.{true};
@@ -22,19 +23,19 @@ ghost use Rattle.lines_fields.specs.Marks.{markCount, marksAt};
 ghost use Rattle.lines.specs.Inside.{whole};
 ghost use Rattle.rules_definitions.specs.Forms.{text};
 ghost use Rattle.rules_walk.specs.Firsts.{fileMost};
-ghost use Rattle.rules.specs.Walk.{ReadIn, recIn, ReadAs, dayOf, vaccineBy, dayBy, OwnIs, OwnEnd, hereWith, HereIs, Holds, LookAt};
+ghost use Rattle.rules.specs.Walk.{ReadIn, recIn, ReadAs, dayOf, historicalBy, vaccineBy, dayBy, OwnIs, OwnEnd, hereWith, HereIs, Holds, LookAt};
 
 // The day that a text gives: whether it is a date, and its number.
-pub(crate) fn day_of_text(t: &[u8]) -> Day
+pub(crate) fn day_of_text(t: &[u8]) -> DayRead
     ensures { λ r. ⌜ r ≡ dayOf (now (t .entry)) ⌝ }
 {
     let d = dates::Date::of(t);
     match d {
-        dates::Dated::Day(day) => Day {
+        dates::Dated::Day(day) => DayRead {
             sound: true,
             number: day.number,
         },
-        dates::Dated::NoDate => Day {
+        dates::Dated::NoDate => DayRead {
             sound: false,
             number: 0,
         },
@@ -42,7 +43,7 @@ pub(crate) fn day_of_text(t: &[u8]) -> Day
 }
 
 // The day that field f of a line gives.
-pub(crate) fn day_in(file: &[u8], marks: &[u32], f: usize) -> Day
+pub(crate) fn day_in(file: &[u8], marks: &[u32], f: usize) -> DayRead
     requires { ⌜ ReadIn (now file) (now marks) ⌝ }
     requires { ⌜ f ≤ 28 ⌝ }
     ensures { λ r. ⌜ r ≡ dayOf (text (recIn (now (file .entry)) (now (marks .entry))) f) ⌝ }
@@ -78,6 +79,18 @@ fn own_end(file: &[u8], joined: bool, from: usize) -> usize
     if joined { ie_end(file, from) } else { from }
 }
 
+// Whether II 5 of the II of a line of kind k is H: of an II its own, of any other the nearest II's.
+fn historical_of(file: &[u8], marks: &[u32], k: u8, was: bool) -> bool
+    requires { ⌜ ReadIn (now file) (now marks) ⌝ }
+    ensures { λ r. ⌜ r ≡ historicalBy (recIn (now (file .entry)) (now (marks .entry))) k was ⌝ }
+{
+    if k == II {
+        rules_forms::is_historical(judged(file, marks, 5))
+    } else {
+        was
+    }
+}
+
 // The vaccine of the II of a line of kind k: of an II its own, of any other the nearest II's.
 fn vaccine_of(file: &[u8], marks: &[u32], k: u8, was: Span) -> Span
     ensures { λ r. ⌜ r ≡ vaccineBy (now (file .entry)) (now (marks .entry)) k was ⌝ }
@@ -90,7 +103,7 @@ fn vaccine_of(file: &[u8], marks: &[u32], k: u8, was: Span) -> Span
 }
 
 // The day of the record that a line of kind k belongs to: an II's or an IN's own, an IE's of the nearest II, an IA's of the nearest IN.
-fn day_of(file: &[u8], marks: &[u32], k: u8, ii_day: Day, in_day: Day) -> Day
+fn day_of(file: &[u8], marks: &[u32], k: u8, ii_day: DayRead, in_day: DayRead) -> DayRead
     requires { ⌜ ReadIn (now file) (now marks) ⌝ }
     ensures { λ r. ⌜ r ≡ dayBy (recIn (now (file .entry)) (now (marks .entry))) k «ii_day» «in_day» ⌝ }
 {
@@ -114,12 +127,14 @@ fn here_of(file: &[u8], marks: &[u32], r: Read, st: State, b: BlockAt, facts: Fa
     let known = st.known;
     let block = st.block;
     let own = own_end(file, facts.joined, next);
+    let historical = historical_of(file, marks, k, known.historical);
     let vaccine = vaccine_of(file, marks, k, known.vaccine);
     let day = day_of(file, marks, k, known.ii_day, known.in_day);
     let uli = known.uli;
     let first = block.first;
     Here {
         kind: k,
+        historical,
         n: st.n,
         place: st.place,
         at: r.at,

@@ -1,12 +1,14 @@
 // The rules that are broken at a field of an II, by its number.
 use crate::By;
 use crate::Here;
+use crate::fields::ii_day;
 use crate::fields::one;
 use crate::fields::span_text;
 use lines::II;
 use lines_fields::judged;
 use lines_fields::part;
 use rules_fields::Broken;
+use rules_fields::Day;
 use rules_fields::code_field;
 use rules_fields::ii4_type;
 use rules_fields::ii8_vaccine;
@@ -25,12 +27,12 @@ ghost use Prim.Native.Nat.{_≤_};
 ghost use Rattle.rules.specs.Fields.{Judges, relaxedIn, ii8In};
 
 // II 8: its IE lines and those of its block's first II are looked at where it joins the block.
-fn judge_ii8(file: &[u8], here: Here, book: &[u8], by: By, t: &[u8]) -> Broken
-    ensures { λ r. ⌜ r ≡ ii8In (now (file .entry)) here (now (book .entry)) by (now (t .entry)) ⌝ }
+fn judge_ii8(file: &[u8], here: Here, book: &[u8], by: By, day: Day, t: &[u8]) -> Broken
+    ensures { λ r. ⌜ r ≡ ii8In (now (file .entry)) here (now (book .entry)) by day (now (t .entry)) ⌝ }
 {
     let own = part(file, here.next, here.own);
     let first = span_text(file, here.first);
-    ii8_vaccine(t, own, first, book, by.sections, here.day, here.facts)
+    ii8_vaccine(t, own, first, book, by.sections, day, here.facts)
 }
 
 // Field f of an II, an event that is relaxed or not.
@@ -49,24 +51,25 @@ pub(crate) fn judge_ii(
     ensures { λ r. ⌜ Judges (now (file .entry)) (now (marks .entry)) here (now (book .entry)) by f r ⌝ }
 {
     let t = judged(file, marks, f);
+    let day = ii_day(here.day, here.historical, by.today);
     match f {
         2 => one(field2_number(II, t, here.place)),
         3 => one(field3_uli(II, t, span_text(file, here.uli))),
         4 => ii4_type(t, here.facts),
         6 => one(ii6_date(t, by.today, here.born)),
-        8 => judge_ii8(file, here, book, by, t),
+        8 => judge_ii8(file, here, book, by, day, t),
         9 => ii9_site(relaxed, t, judged(file, marks, 10)),
         10 => ii10_method(relaxed, judged(file, marks, 9), t),
         11 => {
             let vaccine = span_text(file, here.vaccine);
-            ii11_reason(relaxed, t, vaccine, book, by.sections, here.day)
+            ii11_reason(relaxed, t, vaccine, book, by.sections, day)
         }
         12 => ii12_dosage(relaxed, t, judged(file, marks, 13)),
         13 => {
             let dosage = judged(file, marks, 12);
-            ii13_dosage_type(relaxed, t, dosage, book, by.sections, here.day)
+            ii13_dosage_type(relaxed, t, dosage, book, by.sections, day)
         }
-        14 => one(code_field(II, relaxed, 14, t, t, book, by.sections, here.day)),
+        14 => one(code_field(II, relaxed, 14, t, t, book, by.sections, day)),
         15 => one(ii15_lot(relaxed, t, part(file, here.block, here.at))),
         _ => one(rules1_and_2(II, relaxed, f, t)),
     }

@@ -1,5 +1,6 @@
 // The walk over the lines: the state at the start of a line, and how it goes on.
 use crate::Block;
+use crate::DayRead;
 use crate::Here;
 use crate::Known;
 use crate::Open;
@@ -7,7 +8,6 @@ use crate::State;
 use crate::look::day_in;
 use lines_fields::Span;
 use lines_fields::judged_span;
-use rules_fields::Day;
 ghost use mathlib.Core.Path.{_≡_};
 ghost use Prim.Native.Nat.{_+_, _^_, _<_};
 ghost use Rattle.rules.specs.Walk.{ReadIn, recIn, noOpen, startState};
@@ -48,7 +48,7 @@ fn next_born(file: &[u8], marks: &[u32], k: u8, was: u32) -> u32
 }
 
 // The day of the nearest line of kind j.
-fn next_day(j: u8, was: Day, k: u8, day: Day) -> Day
+fn next_day(j: u8, was: DayRead, k: u8, day: DayRead) -> DayRead
     ensures { λ r. ⌜ r ≡ nextDay j was k day ⌝ }
 {
     if k == j { day } else { was }
@@ -160,6 +160,7 @@ fn next_known(file: &[u8], marks: &[u32], was: Known, h: Here) -> Known
     Known {
         uli,
         born: next_born(file, marks, k, was.born),
+        historical: h.historical,
         vaccine,
         ii_day: next_day(lines::II, was.ii_day, k, h.day),
         in_day: next_day(lines::IN, was.in_day, k, h.day),
@@ -206,7 +207,7 @@ pub(crate) fn start() -> State
     ensures { λ r. ⌜ r ≡ startState ⌝ }
 {
     let none = Span { start: 0, end: 0 };
-    let no_day = Day {
+    let no_day = DayRead {
         sound: false,
         number: 0,
     };
@@ -217,6 +218,7 @@ pub(crate) fn start() -> State
         known: Known {
             uli: none,
             born: 0,
+            historical: false,
             vaccine: none,
             ii_day: no_day,
             in_day: no_day,

@@ -1,13 +1,13 @@
 -- Codes in fields: which fields hold one, how the book writes it, whether it is known, and whether it is in force.
 -- Assumes nothing.
 use Prim.Native.Nat.{ℕ}
-use mathlib.Core.Bool.{Bool, cond, _&&_}
+use mathlib.Core.Bool.{Bool, true, not, cond, _&&_, _||_}
 use mathlib.Core.List.{[], _∷_}
 use lib.Dec.{eqb}
 use Rattle.house.specs.Text.{Text, bytes, oneOf, number}
 use Rattle.lines.specs.Records.{Rec, II, IE, IN, IA}
 use Rattle.book.specs.Book.{codeText, vaccine, antigen, reason, manufacturer, dosageType, reasonNot, withReason, withAntigen}
-use Rattle.rules_definitions.specs.Forms.{text, isSound, isGiven}
+use Rattle.rules_definitions.specs.Forms.{text, isHistorical, isSound, isGiven}
 use Rattle.rules_definitions.specs.Contexts.{headKind}
 use Rattle.rules_definitions.specs.Seen.{Setting, Seen}
 
@@ -71,9 +71,17 @@ dayIsSound v = isSound (headKind (v .line .kind)) (v .head) (dayField (headKind 
 unfoldable pub recordDay : Seen → ℕ
 recordDay v = number (text (v .head) (dayField (headKind (v .line .kind))))
 
--- a code is in force for the record of a line. (Change request 1 reads today and II 5 here.)
+-- Document 02, request 1: "for an II and its IE, a code or pair whose end is before today is in force only if II 5 is H (an unsound one is not
+-- H, and the rules are still judged) and the old test holds too. An end on or after today is judged as before, and IN and IA records keep the
+-- old test, having no indicator."
+
+-- codes and pairs of the record may have an end before today: of an II and its IE only if II 5 is H
+unfoldable pub allowsEnded : Seen → Bool
+allowsEnded v = cond (eqb (headKind (v .line .kind)) II) (isHistorical (text (v .head) 5)) true
+
+-- a code or pair is in force for the record of a line
 unfoldable pub isInForce : Setting → Seen → ℕ → Text → Bool
-isInForce s v k code = s .in-force (recordDay v) k code
+isInForce s v k code = s .in-force (recordDay v) k code && (allowsEnded v || not (s .ended (s .today) k code))
 
 -- a vaccine with its reason at II 11, with its antigen at IE 4: the kind of the pair, and the pair as the book writes it
 unfoldable pub pairKind : ℕ → ℕ

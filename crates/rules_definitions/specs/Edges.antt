@@ -1,5 +1,5 @@
 -- Each rule at work: an edit of File E, of its book, of today or of the ledger that breaks it, with every finding due. One claim, computed.
--- (Document 01's own cases, which speak of whole answers, stand in tuulveski/specs/Examples.antt.)
+-- (Document 01's own cases, which speak of whole answers, stand in demands/specs/Examples.antt.)
 -- Assumes nothing.
 use Prim.Native.Nat.{ℕ}
 use Prim.Native.String.{String}
@@ -9,7 +9,7 @@ use mathlib.Core.List.{List, [], _∷_, _++_}
 use lib.Dec.{eqb}
 use Rattle.house.specs.Text.{Text, bytes, all, pad}
 use Rattle.house.specs.Key.{keyOf}
-use Rattle.book.specs.Book.{Entry, bookOf, listed, listedOn}
+use Rattle.book.specs.Book.{Entry, bookOf, listed, listedOn, listedEnded}
 use Rattle.ledger.specs.Ledger.{Event, isAmong}
 use Rattle.rules_definitions.specs.Seen.{Setting}
 use Rattle.rules_definitions.specs.Findings.{Finding, findingsOf}
@@ -29,7 +29,7 @@ sameAll (x ∷ xs) [] = false
 sameAll (x ∷ xs) (y ∷ ys) = sameFinding x y && sameAll xs ys
 
 abbrev settingBy : ℕ → List Entry → List Event → Setting
-settingBy today book live = record { profile = 0; today = today; known = listed book; in-force = listedOn book; live = isAmong live }
+settingBy today book live = record { profile = 0; today = today; known = listed book; in-force = listedOn book; ended = listedEnded book; live = isAmong live }
 
 -- the findings of a file, on a day, by a book, over live events, are these
 abbrev gives : ℕ → Text → List Event → Text → List Finding → Bool
@@ -80,11 +80,11 @@ edge3 = edited (fileOf ("IV|7.20|" ∷ "IH|10|000001|" ∷ "IF|3|0|" ∷ [])) (a
 unfoldable pub edge4 : Bool
 edge4 = edited (fileWith "II|2|123456789|A||20220901||TESTV|la|IM|50|0.5|ML|XYZ|L1||||||||" six seven) (at 4 9 4 ∷ at 4 14 4 ∷ [])
 
--- a manufacturer that ended the day before; on its last day it is in force
+-- on the day of the visit, a manufacturer that ended the day before; on its last day it is in force
 unfoldable pub edge5 : Bool
 edge5 =
-    gives 20220930 (bookWith "20220831" withReason) [] fileE (at 4 14 5 ∷ at 6 14 5 ∷ [])
-    && gives 20220930 (bookWith "20220901" withReason) [] fileE []
+    gives 20220901 (bookWith "20220831" withReason) [] fileE (at 4 14 5 ∷ at 6 14 5 ∷ [])
+    && gives 20220901 (bookWith "20220901" withReason) [] fileE []
 
 -- another patient's ULI on an IE
 unfoldable pub edge6 : Bool
@@ -116,6 +116,102 @@ edge10 =
 -- a pair that the book has not
 unfoldable pub edge11 : Bool
 edge11 = gives 20220930 (bookWith "99999999" []) [] fileE (at 4 11 11 ∷ at 6 11 11 ∷ [])
+
+-- Document 02, request 1: codes and pairs that ended since the visit, at rules 5 and 11
+
+-- Book E and a reason REF for no immunization, its vaccine with a start, its codes with one end and its pairs with another
+abbrev bookEnding : String → String → String → Text
+bookEnding start codes pairs =
+    1 ∷ pad 20 (bytes "TESTV") ++ bytes start ++ bytes codes
+    ++ (2 ∷ pad 20 (bytes "TESTA") ++ bytes codes)
+    ++ (3 ∷ bytes "50" ++ bytes codes)
+    ++ (4 ∷ bytes "GSK" ++ bytes codes)
+    ++ (5 ∷ pad 4 (bytes "ML") ++ bytes codes)
+    ++ (6 ∷ bytes "REF" ++ bytes codes)
+    ++ (7 ∷ pad 20 (bytes "TESTV") ++ bytes "50" ++ bytes pairs)
+    ++ (8 ∷ pad 20 (bytes "TESTV") ++ pad 20 (bytes "TESTA") ++ bytes pairs)
+
+-- on 20220930, with these ends, the findings of an II with its IE, and of an IN of 20220901 with its IA, are these
+abbrev ending : String → String → String → List Finding → Bool
+ending codes pairs ii due =
+    gives 20220930 (bookEnding "20000101" codes pairs) []
+    (visits (ii ∷ "IE|3|123456789|TESTA|1|" ∷ "IN|4|123456789|A|20220901|REF|1234||" ∷ "IA|5|123456789|TESTA|" ∷ []))
+    due
+
+-- the II of 20220901 with H, and with h
+abbrev withH : String
+withH = "II|2|123456789|A|H|20220901||TESTV|LA|IM|50|0.5|ML|GSK|L1||||||||"
+
+abbrev unsound : String
+unsound = "II|2|123456789|A|h|20220901||TESTV|LA|IM|50|0.5|ML|GSK|L1||||||||"
+
+-- at each code of an II and its IE, and at each of their pairs; at no code of the IN and its IA
+abbrev retired : List Finding
+retired = at 4 8 5 ∷ at 4 11 5 ∷ at 4 11 11 ∷ at 4 13 5 ∷ at 4 14 5 ∷ at 5 4 5 ∷ at 5 4 11 ∷ []
+
+-- an end yesterday, without H and with it
+unfoldable pub endYesterday : Bool
+endYesterday = ending "20220929" "20220929" four retired && ending "20220929" "20220929" withH []
+
+-- today
+unfoldable pub endToday : Bool
+endToday = ending "20220930" "20220930" four [] && ending "20220930" "20220930" withH []
+
+-- tomorrow
+unfoldable pub endTomorrow : Bool
+endTomorrow = ending "20221001" "20221001" four [] && ending "20221001" "20221001" withH []
+
+-- on the day of the visit
+unfoldable pub endThatDay : Bool
+endThatDay = ending "20220901" "20220901" four retired && ending "20220901" "20220901" withH []
+
+-- the day before the visit: H does not help, and the IN and its IA are judged by the day as before
+unfoldable pub endBefore : Bool
+endBefore = ending "20220831" "20220831" withH (retired ++ (at 6 6 5 ∷ at 7 4 5 ∷ []))
+
+-- yesterday, of codes alone and of pairs alone
+unfoldable pub endOfOne : Bool
+endOfOne =
+    ending "20220929" "99999999" four (at 4 8 5 ∷ at 4 11 5 ∷ at 4 13 5 ∷ at 4 14 5 ∷ at 5 4 5 ∷ [])
+    && ending "99999999" "20220929" four (at 4 11 11 ∷ at 5 4 11 ∷ [])
+
+-- yesterday and today, with an unsound II 5: it is not H, and the rules are still judged
+unfoldable pub endUnsound : Bool
+endUnsound =
+    ending "20220929" "20220929" unsound (at 4 5 2 ∷ retired) && ending "20220930" "20220930" unsound (at 4 5 2 ∷ [])
+
+-- yesterday, with an unsound date: nothing is asked of the days of a code
+unfoldable pub endUndated : Bool
+endUndated = ending "20220929" "20220929" "II|2|123456789|A||20220931||TESTV|LA|IM|50|0.5|ML|GSK|L1||||||||" (at 4 6 2 ∷ [])
+
+-- yesterday, of a change and of a delete
+abbrev amending : String → Bool
+amending ii = gives 20220930 (bookEnding "20000101" "20220929" "20220929") (eventE ∷ []) (visits (ii ∷ "IE|3|123456789|TESTA|1|" ∷ [])) retired
+
+unfoldable pub endOfType : Bool
+endOfType =
+    amending "II|2|123456789|C||20220901||TESTV|LA|IM|50|0.5|ML|GSK|L1||||||||"
+    && amending "II|2|123456789|D||20220901||TESTV|LA|IM|50|0.5|ML|GSK|L1||||||||"
+
+-- yesterday, of a vaccine that starts the day after the visit: H does not help
+unfoldable pub endNotBegun : Bool
+endNotBegun =
+    gives 20220930 (bookEnding "20220902" "20220929" "20220929") [] (visits (withH ∷ "IE|3|123456789|TESTA|1|" ∷ [])) (at 4 8 5 ∷ [])
+
+-- yesterday, of two II: each IE goes by its own
+unfoldable pub endByItsII : Bool
+endByItsII =
+    gives 20220930 (bookEnding "20000101" "20220929" "20220929") []
+    (visits (four ∷ "IE|3|123456789|TESTA|1|" ∷ "II|4|123456789|A|H|20220902||TESTV|LA|IM|50|0.5|ML|GSK|L1||||||||" ∷ seven ∷ []))
+    retired
+    && gives 20220930 (bookEnding "20000101" "99999999" "20220929") []
+    (visits (withH ∷ "IE|3|123456789|TESTA|1|" ∷ "II|4|123456789|A||20220902||TESTV|LA|IM|50|0.5|ML|GSK|L1||||||||" ∷ seven ∷ []))
+    (at 6 11 11 ∷ at 7 4 11 ∷ [])
+
+unfoldable pub ends : List Bool
+ends =
+    endYesterday ∷ endToday ∷ endTomorrow ∷ endThatDay ∷ endBefore ∷ endOfOne ∷ endUnsound ∷ endUndated ∷ endOfType ∷ endNotBegun
+    ∷ endByItsII ∷ []
 
 -- an antigen twice in one II
 unfoldable pub edge12 : Bool
@@ -181,7 +277,7 @@ edge18 =
 unfoldable pub edges : List Bool
 edges =
     edge0 ∷ edge1 ∷ edge2 ∷ edge3 ∷ edge4 ∷ edge5 ∷ edge6 ∷ edge7 ∷ edge8 ∷ edge9 ∷ edge10 ∷ edge11 ∷ edge12 ∷ edge13 ∷ edge14
-    ∷ edge15 ∷ edge16 ∷ edge17 ∷ edge18 ∷ []
+    ∷ edge15 ∷ edge16 ∷ edge17 ∷ edge18 ∷ ends
 
 -- Every rule is at work in the definitions.
 abbrev pub EdgesHold : Type 0

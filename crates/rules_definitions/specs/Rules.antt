@@ -54,7 +54,7 @@ unfoldable pub rule4 : Rule
 rule4 s v f = isGiven (v .line .kind) (v .line) f && not (isKnown s (v .line .kind) (v .line) f)
 
 -- "5 code known, not in force on the record's date (II 6, also for its IE; IN 5, also for its IA)." At the fields of rule 4 whose code is
--- the book's: a site and a method have no dates.
+-- the book's: a site and a method have no dates. In force is as document 02's request 1 reads it (`isInForce`).
 abbrev pub rule5Places : List Place
 rule5Places = at II 8 ∷ at II 11 ∷ at II 13 ∷ at II 14 ∷ at IE 4 ∷ at IN 6 ∷ at IA 4 ∷ []
 
@@ -125,7 +125,7 @@ unfoldable pub rule10 : Rule
 rule10 s v f = lacks (v .line) f (partnerOf f) && isRelaxed (v .line)
 
 -- "11 at II 11 or IE 4: the pair with the vaccine is absent from the book, or not in force on II 6; judged if both codes are known,
--- and with an unsound date only for absence."
+-- and with an unsound date only for absence." In force as for rule 5.
 abbrev pub rule11Places : List Place
 rule11Places = at II 11 ∷ at IE 4 ∷ []
 

@@ -18,6 +18,8 @@ pub record Setting : Type 0 where
   pub known : ℕ → Text → Bool
   -- and has it in force on this day
   pub in-force : ℕ → ℕ → Text → Bool
+  -- the book has it with an end before this day
+  pub ended : ℕ → ℕ → Text → Bool
   -- the event is live
   pub live : Event → Bool
 

@@ -1,6 +1,6 @@
 -- What look-ups say of codes, as the functions on them need it.
 -- Assumes nothing.
-use mathlib.Core.Path.{_≡_, sym, _∙_}
+use mathlib.Core.Path.{_≡_, sym}
 use mathlib.Core.Bool.{true, false, not, _||_, and-true, and-false}
 use Prim.Native.Nat.{ℕ}
 use borrow.Author.Needs.{needs}
@@ -9,8 +9,8 @@ use Rattle.book.specs.declared.Sections.{Sections}
 use Rattle.book.specs.declared.Standing.{Standing}
 use Rattle.book.specs.declared.Standing.the-variants.{Unknown, OutOfForce, InForce}
 use Rattle.book.specs.Book.{codeText}
-use Rattle.book.specs.LookUp.{knownBy, inForceBy, standingBy}
-use Rattle.book.proofs.StandingLaws.{until-none, when-unknown, when-out, when-in}
+use Rattle.book.specs.LookUp.{knownBy, inForceUntilBy, standingBy}
+use Rattle.book.proofs.StandingLaws.{when-unknown, when-out, when-in}
 use Rattle.rules_fields.specs.declared.Day.{Day}
 use Rattle.rules_fields.specs.Fields.{rules4and5Of, isOut}
 
@@ -25,15 +25,15 @@ module _ (s : Text) (q : Sections) (k : ℕ) (x : Text) (d u : ℕ) (r : Standin
   pub known-when-in : r ≡ InForce → true ≡ knownBy s q k x
   known-when-in z = sym (when-in s q k x d u r e z .0)
 
-module _ (s : Text) (q : Sections) (k : ℕ) (a b : Text) (day : Day) (r : Standing) (e : r ≡ standingBy s q k (codeText k a b) (day .number) 0) where
+module _ (s : Text) (q : Sections) (k : ℕ) (a b : Text) (day : Day) (r : Standing) (e : r ≡ standingBy s q k (codeText k a b) (day .number) (day .until)) where
   unknown : r ≡ Unknown → knownBy s q k (codeText k a b) ≡ false
-  unknown = when-unknown s q k (codeText k a b) (day .number) 0 r e
+  unknown = when-unknown s q k (codeText k a b) (day .number) (day .until) r e
 
-  out : r ≡ OutOfForce → (knownBy s q k (codeText k a b) ≡ true) × (inForceBy s q (day .number) k (codeText k a b) ≡ false)
-  out z = let w = when-out s q k (codeText k a b) (day .number) 0 r e z in (w .0, sym (until-none s q k (codeText k a b) (day .number)) ∙ w .1)
+  out : r ≡ OutOfForce → (knownBy s q k (codeText k a b) ≡ true) × (inForceUntilBy s q (day .number) (day .until) k (codeText k a b) ≡ false)
+  out = when-out s q k (codeText k a b) (day .number) (day .until) r e
 
-  in-force : r ≡ InForce → (knownBy s q k (codeText k a b) ≡ true) × (inForceBy s q (day .number) k (codeText k a b) ≡ true)
-  in-force z = let w = when-in s q k (codeText k a b) (day .number) 0 r e z in (w .0, sym (until-none s q k (codeText k a b) (day .number)) ∙ w .1)
+  in-force : r ≡ InForce → (knownBy s q k (codeText k a b) ≡ true) × (inForceUntilBy s q (day .number) (day .until) k (codeText k a b) ≡ true)
+  in-force = when-in s q k (codeText k a b) (day .number) (day .until) r e
 
   -- rules4_and_5_code
   pub later-unknown : r ≡ Unknown → 4 ≡ rules4and5Of false (knownBy s q k (codeText k a b)) (isOut k (codeText k a b) s q day)

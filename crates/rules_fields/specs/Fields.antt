@@ -17,7 +17,7 @@ use Rattle.rules_lists.specs.Among.{antigenIs}
 use Rattle.rules_fields.specs.declared.Broken.{Broken}
 use Rattle.rules_fields.specs.declared.Day.{Day}
 use Rattle.rules_fields.specs.declared.Facts.{Facts}
-use Rattle.book.specs.LookUp.{knownBy, inForceBy}
+use Rattle.book.specs.LookUp.{knownBy, inForceUntilBy}
 
 abbrev pub broken : ℕ → ℕ → ℕ → Broken
 broken a b c = record { a = a; b = b; c = c }
@@ -26,9 +26,13 @@ broken a b c = record { a = a; b = b; c = c }
 unfoldable pub rules4and5Of : Bool → Bool → Bool → ℕ
 rules4and5Of empty known out = cond empty 0 (cond known (cond out 5 0) 4)
 
--- on a day that is sound, no entry of this kind and code, as the book writes it, is in force
+-- no end is before this day
+abbrev pub anyEnd : ℕ
+anyEnd = 0
+
+-- on a day that is sound, no entry of this kind and code, as the book writes it, is in force with an end that is late enough
 abbrev pub isOut : ℕ → Text → Text → Sections → Day → Bool
-isOut of code book q day = day .sound && not (inForceBy book q (day .number) of code)
+isOut of code book q day = day .sound && not (inForceUntilBy book q (day .number) (day .until) of code)
 
 -- rules 4 and 5 of a code of a kind of the book that is given
 abbrev pub rules4and5By : ℕ → Text → Text → Sections → Day → ℕ

@@ -22,8 +22,8 @@ ghost use Rattle.rules_definitions.specs.Codes.{bookKind, pairKind};
 ghost use Rattle.book.specs.LookUp.{knownBy};
 ghost use Rattle.rules_fields.specs.Fields.{rules4and5By, isPairWrong, codeBy, codeKnownBy, pairField, unpairedBy, rule11By};
 
-// No end is before this day. (Change request 1 asks for no end before today, of an II and its IE, unless II 5 is H.)
-const ANY_END: u32 = 0;
+// No end is before this day.
+pub const ANY_END: u32 = 0;
 
 // Whether the book has a code of a kind.
 fn is_known(book: &[u8], q: Sections, kind: u8, code: &[u8]) -> bool
@@ -41,7 +41,7 @@ fn is_known(book: &[u8], q: Sections, kind: u8, code: &[u8]) -> bool
 fn rules4_and_5_code(book: &[u8], q: Sections, kind: u8, code: &[u8], day: Day) -> u8
     ensures { λ r. ⌜ r ≡ rules4and5By kind (now (code .entry)) (now (book .entry)) q day ⌝ }
 {
-    let s = book::look_up(book, q, kind, code, &code[..0], day.number, ANY_END);
+    let s = book::look_up(book, q, kind, code, &code[..0], day.number, day.until);
     match s {
         Standing::Unknown => 4,
         Standing::InForce => 0,
@@ -53,7 +53,7 @@ fn rules4_and_5_code(book: &[u8], q: Sections, kind: u8, code: &[u8], day: Day) 
 fn pair_wrong(book: &[u8], q: Sections, kind: u8, a: &[u8], b: &[u8], day: Day) -> bool
     ensures { λ r. ⌜ r ≡ isPairWrong kind (now (a .entry)) (now (b .entry)) (now (book .entry)) q day ⌝ }
 {
-    let s = book::look_up(book, q, kind, a, b, day.number, ANY_END);
+    let s = book::look_up(book, q, kind, a, b, day.number, day.until);
     match s {
         Standing::Unknown => true,
         Standing::InForce => false,

@@ -11,6 +11,7 @@ pub use by_field::ii10_method;
 pub use by_field::ii11_reason;
 pub use by_field::ii12_dosage;
 pub use by_field::ii13_dosage_type;
+pub use codes::ANY_END;
 pub use codes::code_field;
 
 // Up to three rules that are broken at a field, 0 for none.
@@ -20,10 +21,12 @@ pub struct Broken {
     pub c: u8,
 }
 
-// The day of a record: whether its field is sound, and the number that it writes.
+// The day of a record, which its codes are asked about: whether its field is sound, the number that it writes, and the day that a code is not
+// to have ended before.
 pub struct Day {
     pub sound: bool,
     pub number: u32,
+    pub until: u32,
 }
 
 // What is known of an II: whether it is in a block, whether it joins the open one, whether an earlier block names its event, and whether

@@ -12,6 +12,7 @@ pub use fields::sound_text;
 pub use texts::is_code;
 pub use texts::is_count;
 pub use texts::is_date;
+pub use texts::is_historical;
 pub use texts::is_type;
 pub use texts::is_uli;
 pub use texts::value;

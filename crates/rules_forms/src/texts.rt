@@ -110,7 +110,7 @@ pub fn is_type(t: &[u8]) -> bool
 }
 
 // II 5: H.
-pub(crate) fn is_historical(t: &[u8]) -> bool
+pub fn is_historical(t: &[u8]) -> bool
     ensures { λ r. ⌜ r ≡ isHistorical (now (t .entry)) ⌝ }
 {
     house::same(t, b"H")

@@ -1,5 +1,6 @@
-//! The check of document 01, written from its text alone and with nothing
-//! shared with the product: what both say of a case, both read in the document.
+//! The check of document 01 as document 02's requests have changed it, so far
+//! CR 1, written from their texts alone and with nothing shared with the product:
+//! what both say of a case, both read in the documents.
 
 pub mod book;
 mod code;

@@ -1,9 +1,12 @@
-//! What the cases of a run reach: answers, causes, and (kind, field, rule)
-//! triples.
+//! What the cases of a run reach: answers, causes, (kind, field, rule) triples,
+//! and the ends of codes and pairs.
+
+mod ends;
 
 use crate::case::{Case, Outcome};
 use crate::check::shape::Kind;
 use crate::check::{self, Finding};
+use ends::{Row, ENDS};
 use std::collections::BTreeMap;
 
 pub type Triple = (Kind, u8, u8);
@@ -13,6 +16,7 @@ pub struct Coverage {
     answers: [usize; 8],
     causes: [usize; 8],
     triples: BTreeMap<Triple, usize>,
+    ends: BTreeMap<Row, usize>,
 }
 
 /// The rules that document 01 allows at each field.
@@ -65,8 +69,19 @@ impl Coverage {
     pub fn add(&mut self, case: &Case, outcome: &Outcome) {
         self.answers[outcome.answer.answer as usize] += 1;
         self.causes[outcome.answer.cause as usize] += 1;
-        if outcome.answer.answer == check::FINDINGS {
+        let answer = outcome.answer.answer;
+        if answer == check::FINDINGS {
             self.add_findings(case);
+        }
+        if matches!(answer, check::ACCEPTED | check::FINDINGS | check::FULL) {
+            self.add_ends(case, answer == check::ACCEPTED);
+        }
+    }
+
+    /// Each row counts once a case.
+    fn add_ends(&mut self, case: &Case, is_accepted: bool) {
+        for row in ends::rows(case, is_accepted) {
+            *self.ends.entry(row).or_default() += 1;
         }
     }
 
@@ -77,7 +92,7 @@ impl Coverage {
         }
     }
 
-    /// The answers, causes and triples that no case reached.
+    /// The answers, causes, triples and ends that no case reached.
     pub fn missing(&self) -> Vec<String> {
         let answers = (0..8).filter(|&answer| self.answers[answer] == 0);
         let causes = (1..8).filter(|&cause| self.causes[cause] == 0);
@@ -85,6 +100,9 @@ impl Coverage {
         let mut missing: Vec<String> = answers.map(|answer| format!("answer {answer}")).collect();
         missing.extend(causes.map(|cause| format!("cause {cause}")));
         missing.extend(triples.map(named));
+        let ends = ends::possible().into_iter();
+        let ends = ends.filter(|&row| self.of_ends(row) == 0);
+        missing.extend(ends.map(|row| row.to_string()));
         missing
     }
 
@@ -105,6 +123,25 @@ impl Coverage {
         {
             println!("impossible by document 01: {}", named(*triple));
         }
+        self.print_ends();
+    }
+
+    fn print_ends(&self) {
+        for (place, indicator) in ends::places() {
+            let of = |end| self.of_ends(Row::Ends(place, indicator, end));
+            let words = ENDS.map(|end| format!("{end} {}", of(end)));
+            println!("{place} ends, {indicator}: {}", words.join(", "));
+        }
+        for row in ends::others() {
+            println!("{row}: {}", self.of_ends(row));
+        }
+        let rows = ends::possible();
+        let reached = rows.iter().filter(|&&row| self.of_ends(row) > 0).count();
+        println!("{reached} of {} ends reached", rows.len());
+    }
+
+    fn of_ends(&self, row: Row) -> usize {
+        self.ends.get(&row).copied().unwrap_or(0)
     }
 }
 

@@ -1,8 +1,10 @@
-//! How the implementation reads what document 01 leaves to its reader.
+//! How the implementation reads what document 01, and document 02 after it, leave
+//! to their reader.
 
 mod common;
 
 use common::*;
+use differential::check::book::entry_width;
 use differential::check::{all_findings, ACCEPTED};
 
 const START: &str =
@@ -169,6 +171,136 @@ fn rule_11_without_a_sound_date_asks_only_for_absence() {
     assert_eq!(list(&book), 1);
     book.drain(pair..pair + 31);
     assert_eq!(list(&book), 2);
+}
+
+/// The book of File E in which the entry of a kind ends on a day.
+fn book_ended(kind: u8, end: u32) -> Vec<u8> {
+    let (mut book, mut at) = (book_e(), 0);
+    while book[at] != kind {
+        at += entry_width(book[at]).unwrap();
+    }
+    let after = at + entry_width(kind).unwrap();
+    book[after - 8..after].copy_from_slice(end.to_string().as_bytes());
+    book
+}
+
+/// What is found, with this book, in a file of one immunization with this II 5.
+fn found_by(book: &[u8], historical: &str, day: &str) -> Vec<(u32, u8, u8)> {
+    let (indicator, given) = (format!("|A|{historical}|"), format!("|{day}|"));
+    let file = immunizations(&[&[("|A||", &indicator), ("|20220901|", &given)]]);
+    findings_by(book, &file, &[])
+}
+
+/// The place of what the entries of a kind are asked for in `found_by`.
+fn place_of(kind: u8) -> (u32, u8, u8) {
+    match kind {
+        1 => (4, 8, 5),
+        2 => (5, 4, 5),
+        3 => (4, 11, 5),
+        4 => (4, 14, 5),
+        5 => (4, 13, 5),
+        7 => (4, 11, 11),
+        _ => (5, 4, 11),
+    }
+}
+
+const KINDS_OF_AN_II: [u8; 7] = [1, 2, 3, 4, 5, 7, 8];
+
+#[test]
+fn a_code_or_pair_that_ended_before_today_asks_for_h() {
+    for kind in KINDS_OF_AN_II {
+        for (end, is_retired) in [
+            (20220901, true),
+            (20220929, true),
+            (20220930, false),
+            (20221001, false),
+        ] {
+            let book = book_ended(kind, end);
+            let due = Vec::from_iter(is_retired.then_some(place_of(kind)));
+            assert_eq!(found_by(&book, "", "20220901"), due, "{kind} {end}");
+            assert_eq!(found_by(&book, "H", "20220901"), [], "{kind} {end} H");
+        }
+    }
+}
+
+#[test]
+fn h_does_not_bring_back_the_days_after_an_end() {
+    for kind in KINDS_OF_AN_II {
+        let book = book_ended(kind, 20220831);
+        for historical in ["", "H"] {
+            assert_eq!(found_by(&book, historical, "20220901"), [place_of(kind)]);
+        }
+    }
+    let before_start = [(4, 6, 8), (4, 8, 5)];
+    assert_eq!(found_by(&book_e(), "H", "19991231"), before_start);
+}
+
+#[test]
+fn an_unsound_indicator_is_not_h() {
+    for kind in KINDS_OF_AN_II {
+        for unsound in ["h", "HH", "X", " ", "H ", " H"] {
+            let found = found_by(&book_ended(kind, 20220929), unsound, "20220901");
+            assert_eq!(found, [(4, 5, 2), place_of(kind)], "{kind} {unsound:?}");
+            let found = found_by(&book_ended(kind, 20220930), unsound, "20220901");
+            assert_eq!(found, [(4, 5, 2)], "{kind} {unsound:?}");
+        }
+    }
+}
+
+#[test]
+fn an_unsound_date_asks_nothing_of_an_end() {
+    for kind in KINDS_OF_AN_II {
+        let book = book_ended(kind, 20220929);
+        assert_eq!(found_by(&book, "", "20220931"), [(4, 6, 2)]);
+    }
+}
+
+#[test]
+fn an_ie_goes_by_its_own_ii() {
+    let book = book_ended(2, 20220929);
+    let found = |flags: [&str; 2]| {
+        let [one, other] = flags.map(|flag| format!("|{flag}|2022"));
+        let file = immunizations(&[&[("||2022", &one)], &[("||2022", &other)]]);
+        findings_by(&book, &file, &[])
+    };
+    assert_eq!(found(["", ""]), [(5, 4, 5), (7, 4, 5)]);
+    assert_eq!(found(["H", ""]), [(7, 4, 5)]);
+    assert_eq!(found(["", "H"]), [(5, 4, 5)]);
+    assert_eq!(found(["H", "H"]), []);
+}
+
+#[test]
+fn changes_and_deletes_ask_for_h_too() {
+    let (book, lent) = (
+        book_ended(4, 20220929),
+        live("123456789", "20220901", "TESTV"),
+    );
+    for kind in ["C", "D"] {
+        let file = |flag| immunizations(&[&[("|A||", &format!("|{kind}|{flag}|"))]]);
+        assert_eq!(findings_by(&book, &file(""), &lent), [(4, 14, 5)]);
+        assert_eq!(findings_by(&book, &file("H"), &lent), []);
+    }
+}
+
+#[test]
+fn in_and_ia_ask_for_their_day_alone() {
+    let file = patient(&[
+        ii(2, &[]),
+        ie(3, "TESTA", "1"),
+        "IN|4|123456789|A|20220901|REF|1||\n".to_string(),
+        "IA|5|123456789|TESTA|\n".to_string(),
+    ]);
+    let found = |reason: u32, antigen: u32| {
+        let mut book = book_ended(2, antigen);
+        // Before the two pairs.
+        let place = book.len() - 49 - 31;
+        book.splice(place..place, format!("\x06REF{reason}").into_bytes());
+        findings_by(&book, &file, &[])
+    };
+    assert_eq!(found(20220901, 20220930), []);
+    assert_eq!(found(20220929, 20220901), [(5, 4, 5)]);
+    assert_eq!(found(20220831, 20220930), [(6, 6, 5)]);
+    assert_eq!(found(99999999, 20220831), [(5, 4, 5), (7, 4, 5)]);
 }
 
 #[test]

@@ -53,8 +53,9 @@ pub struct Days {
 }
 
 impl Days {
-    pub fn in_force(self, day: u32) -> bool {
-        self.start <= day && day <= self.end
+    /// Whether it is in force on `day`, with an end on or after `ends_from`.
+    pub fn in_force(self, day: u32, ends_from: u32) -> bool {
+        self.start <= day && day <= self.end && ends_from <= self.end
     }
 }
 

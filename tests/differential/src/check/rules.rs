@@ -5,7 +5,7 @@ mod blocks;
 mod immunization;
 mod seen;
 
-use super::book::{Book, Known, Table};
+use super::book::{Book, Days, Known, Table};
 use super::findings::{Finding, Findings};
 use super::forms;
 use super::ledger::{Edit, Lent};
@@ -68,6 +68,9 @@ enum Need {
 
 use Need::{Mandatory, Optional};
 
+/// A day before every date.
+const ANY_DAY: u32 = 0;
+
 /// The IP above: its sound fields 3 and 25.
 #[derive(Default)]
 struct Patient {
@@ -84,6 +87,9 @@ pub struct Judge<'a> {
     patient: Patient,
     /// The sound date of the II or IN above.
     day: Option<u32>,
+    /// The first day on which a code or pair of the II or IN above may end: today
+    /// for an II that is not H, any day for the others.
+    ends_from: u32,
     /// The vaccine of the II above, if known.
     vaccine: Option<u32>,
     antigens: Antigens,
@@ -100,6 +106,7 @@ impl<'a> Judge<'a> {
             place: 0,
             patient: Patient::default(),
             day: None,
+            ends_from: ANY_DAY,
             vaccine: None,
             antigens: Antigens::default(),
             blocks: Blocks::default(),
@@ -204,6 +211,7 @@ impl<'a> Judge<'a> {
         self.uli(record);
         self.field(record, 4, Mandatory, forms::submission);
         self.day = self.date(record, 5);
+        self.ends_from = ANY_DAY;
         let reason = self.field(record, 6, Mandatory, forms::reason_not_immunized);
         self.code(record, 6, &self.book.reasons_not_immunized, reason);
         self.field(record, 7, Mandatory, forms::delivery_organization);
@@ -263,9 +271,17 @@ impl<'a> Judge<'a> {
             self.finding(record, field, 4);
             return None;
         };
-        if self.day.is_some_and(|day| !days.in_force(day)) {
+        if !self.in_force(days) {
             self.finding(record, field, 5);
         }
         Some(number)
+    }
+
+    /// Whether a code or pair is in force for the II or IN above. An unsound date
+    /// asks for nothing.
+    #[inline]
+    fn in_force(&self, days: Days) -> bool {
+        self.day
+            .is_none_or(|day| days.in_force(day, self.ends_from))
     }
 }

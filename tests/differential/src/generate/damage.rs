@@ -3,7 +3,7 @@
 
 use super::calendar;
 use super::submission::{antigen_count, get, is, is_numbered, relax, renumber, set, Line};
-use super::submission::{PLAIN_METHODS, PLAIN_SITES};
+use super::submission::{NEARLY_HISTORICAL, PLAIN_METHODS, PLAIN_SITES};
 use super::world::{event, Entry, Text, World};
 use crate::random::Random;
 
@@ -285,12 +285,14 @@ fn borrowed(random: &mut Random, draft: &Draft, place: usize, field: usize) -> T
 
 /// Damage that aims at a rule.
 pub fn damage_by_rule(random: &mut Random, draft: &mut Draft) {
-    const AIMS: [fn(&mut Random, &mut Draft); 24] = [
+    const AIMS: [fn(&mut Random, &mut Draft); 26] = [
         wrong_number,
         other_uli,
         wrong_date,
         unknown_code,
         end_a_code,
+        retire_codes,
+        retire_codes,
         drop_an_entry,
         drop_a_pair,
         site_with_method,
@@ -414,18 +416,20 @@ fn swapped_case(text: &[u8]) -> Text {
         .collect()
 }
 
+/// The fields that have a code of the book.
+const BOOK_FIELDS: [(&str, usize); 7] = [
+    ("II", 8),
+    ("II", 11),
+    ("II", 13),
+    ("II", 14),
+    ("IE", 4),
+    ("IN", 6),
+    ("IA", 4),
+];
+
 /// A code of the file, or its pair, ends before or on its day, or starts after it.
 fn end_a_code(random: &mut Random, draft: &mut Draft) {
-    const FIELDS: [(&str, usize); 7] = [
-        ("II", 8),
-        ("II", 11),
-        ("II", 13),
-        ("II", 14),
-        ("IE", 4),
-        ("IN", 6),
-        ("IA", 4),
-    ];
-    let (kind, field) = *random.pick(&FIELDS);
+    let (kind, field) = *random.pick(&BOOK_FIELDS);
     let Some(place) = place_of(random, draft, kind) else {
         return;
     };
@@ -443,6 +447,57 @@ fn end_a_code(random: &mut Random, draft: &mut Draft) {
             (Some(_), 0) => entry.start = Some(calendar::day_after(day)),
             (_, 1) => entry.end = day,
             _ => entry.end = calendar::day_before(day),
+        }
+    }
+}
+
+/// Codes and pairs of an II or IN end about its day or about today, or start
+/// after its day, whatever II 5 says.
+fn retire_codes(random: &mut Random, draft: &mut Draft) {
+    let kind = *random.pick(&["II", "II", "IN"]);
+    let Some(head) = place_of(random, draft, kind) else {
+        return;
+    };
+    let (day, today) = (day_of(draft, head), draft.world.today);
+    for place in head..group_end(draft, head) {
+        for (kind, field) in BOOK_FIELDS {
+            if is(&draft.lines[place], kind) && random.percent(40) {
+                retire_code(random, draft, place, field, (day, today));
+            }
+        }
+    }
+    if kind == "II" {
+        let nearly = *random.pick(&NEARLY_HISTORICAL);
+        let indicator = *random.pick(&["H", "", nearly]);
+        set(&mut draft.lines[head], 5, indicator);
+    }
+}
+
+fn retire_code(
+    random: &mut Random,
+    draft: &mut Draft,
+    place: usize,
+    field: usize,
+    (day, today): (u32, u32),
+) {
+    let code = get(&draft.lines[place], field).to_vec();
+    let entry_kind = code_kind(&draft.lines[place], field);
+    let (alone, with_pairs) = *random.pick(&[(true, false), (false, true), (true, true)]);
+    for entry in &mut draft.world.book {
+        let is_code = Some(entry.kind) == entry_kind && entry.codes[0] == code;
+        let is_pair = entry.codes.get(1) == Some(&code);
+        if (alone && is_code) || (with_pairs && is_pair) {
+            entry.end = match random.below(8) {
+                0 => day,
+                1 => calendar::day_before(day),
+                2 => today,
+                3 | 4 => calendar::day_before(today),
+                5 => calendar::day_after(today),
+                _ => calendar::between(random, day, today.max(day)),
+            };
+            if entry.start.is_some() && random.percent(40) {
+                entry.start = Some(calendar::day_after(day));
+            }
         }
     }
 }

@@ -1,7 +1,7 @@
 //! Submissions in which the rules find little or nothing.
 
 use super::calendar;
-use super::world::{event, Size, Text, World};
+use super::world::{event, Asked, Size, Text, World};
 use crate::random::Random;
 
 /// A line as the texts of its fields.
@@ -38,6 +38,7 @@ pub fn submission(random: &mut Random, world: &World, size: Size) -> Vec<Line> {
     let mut writer = Writer {
         world,
         size,
+        is_careless: random.percent(30),
         named: Vec::new(),
         lines: Vec::new(),
     };
@@ -63,6 +64,8 @@ pub fn renumber(random: &mut Random, lines: &mut [Line]) {
 struct Writer<'a> {
     world: &'a World,
     size: Size,
+    /// Whether codes that have ended are used without H, and any vaccine.
+    is_careless: bool,
     /// The events that blocks name so far.
     named: Vec<Text>,
     lines: Vec<Line>,
@@ -72,7 +75,10 @@ struct Writer<'a> {
 struct Block {
     uli: Text,
     submission_type: &'static str,
-    day: u32,
+    /// II 5, mostly.
+    indicator: &'static str,
+    /// What its codes are picked by.
+    asked: Asked,
     vaccine: Text,
     antigens: Vec<(Text, usize)>,
 }
@@ -141,31 +147,44 @@ impl Writer<'_> {
         for _ in 0..8 {
             if !self
                 .named
-                .contains(&event(&block.uli, block.day, &block.vaccine))
+                .contains(&event(&block.uli, block.asked.day, &block.vaccine))
             {
                 break;
             }
             block = self.block(random, uli);
         }
         self.named
-            .push(event(&block.uli, block.day, &block.vaccine));
+            .push(event(&block.uli, block.asked.day, &block.vaccine));
         let mut lots = Vec::new();
         for _ in 0..count(random, self.size.lots, 0).max(1) {
             self.push_immunization(random, &block, &mut lots);
         }
-        block.day
+        block.asked.day
     }
 
     fn block(&self, random: &mut Random, uli: &[u8]) -> Block {
         let day = *random.pick(&self.world.days);
-        let vaccine = self.world.good_code(random, 1, day);
+        let indicator = self.indicator(random);
+        let asked = if indicator == "H" || self.is_careless {
+            Asked::on(day)
+        } else {
+            Asked {
+                day,
+                ends_from: self.world.today,
+            }
+        };
+        let vaccine = if self.is_careless && random.percent(20) {
+            self.world.any_code(random, 1)
+        } else {
+            self.world.good_code(random, 1, asked)
+        };
         let is_live = self.world.live.contains(&event(uli, day, &vaccine));
         let submission_type = if is_live {
             random.pick(&["C", "D"])
         } else {
             "A"
         };
-        let mut codes = self.world.good_with(random, 8, 2, &vaccine, day);
+        let mut codes = self.world.good_with(random, 8, 2, &vaccine, asked);
         random.shuffle(&mut codes);
         codes.truncate(random.between(1, self.size.antigens));
         let antigens = codes
@@ -175,9 +194,20 @@ impl Writer<'_> {
         Block {
             uli: uli.to_vec(),
             submission_type,
-            day,
+            indicator,
+            asked,
             vaccine,
             antigens,
+        }
+    }
+
+    /// II 5: H, nothing, or in a careless file what is near to H.
+    fn indicator(&self, random: &mut Random) -> &'static str {
+        let nearly = *random.pick(&NEARLY_HISTORICAL);
+        match random.below(10) {
+            0..=2 => "H",
+            3 if self.is_careless => nearly,
+            _ => "",
         }
     }
 
@@ -186,14 +216,21 @@ impl Writer<'_> {
         let mut ii = record("II", 22);
         set(&mut ii, 3, &block.uli);
         set(&mut ii, 4, block.submission_type);
-        set(&mut ii, 6, format!("{:08}", block.day));
+        set(&mut ii, 5, block.indicator);
+        if self.is_careless && random.percent(20) {
+            set(&mut ii, 5, self.indicator(random));
+        }
+        set(&mut ii, 6, format!("{:08}", block.asked.day));
         set(&mut ii, 7, random.pick(&["", "", "E"]));
         set(&mut ii, 8, &block.vaccine);
         self.set_details(random, &mut ii, block);
         set(&mut ii, 15, lot(random, lots));
         set_places(random, &mut ii);
-        if random.percent(25) {
+        let is_relaxed = random.percent(25);
+        if is_relaxed {
             relax(random, &mut ii);
+        }
+        if is_relaxed || (block.indicator == "H" && random.percent(25)) {
             empty_some(random, &mut ii, lots);
         }
         self.lines.push(ii);
@@ -212,12 +249,12 @@ impl Writer<'_> {
         set(ii, 10, method);
         let reasons = self
             .world
-            .good_with(random, 7, 3, &block.vaccine, block.day);
+            .good_with(random, 7, 3, &block.vaccine, block.asked);
         let reason = random.pick(&reasons).clone();
         set(ii, 11, written_reason(random, reason));
         set(ii, 12, random.pick(&DOSAGES));
-        set(ii, 13, self.world.good_code(random, 5, block.day));
-        set(ii, 14, self.world.good_code(random, 4, block.day));
+        set(ii, 13, self.world.good_code(random, 5, block.asked));
+        set(ii, 14, self.world.good_code(random, 4, block.asked));
     }
 
     /// An IN with its IA lines. Gives back its day.
@@ -227,14 +264,15 @@ impl Writer<'_> {
         set(&mut line, 3, uli);
         set(&mut line, 4, random.pick(&["A", "C", "D"]));
         set(&mut line, 5, format!("{day:08}"));
-        set(&mut line, 6, self.world.good_code(random, 6, day));
+        let asked = Asked::on(day);
+        set(&mut line, 6, self.world.good_code(random, 6, asked));
         set(&mut line, 7, random.pick(&["10", "1", "9999", "0000"]));
         set(&mut line, 8, random.pick(&["", "05", "K", "zZ"]));
         self.lines.push(line);
         for _ in 0..random.between(1, self.size.antigens.min(3)) {
             let mut line = record("IA", 4);
             set(&mut line, 3, uli);
-            set(&mut line, 4, self.world.good_code(random, 2, day));
+            set(&mut line, 4, self.world.good_code(random, 2, asked));
             self.lines.push(line);
         }
         day
@@ -325,6 +363,9 @@ fn site_and_method(random: &mut Random) -> (&'static str, &'static str) {
         _ => (*random.pick(&PLAIN_SITES), *random.pick(&PLAIN_METHODS)),
     }
 }
+
+/// Texts that are near to H.
+pub const NEARLY_HISTORICAL: [&str; 6] = ["h", "HH", "H ", " H", "X", " "];
 
 pub const PLAIN_SITES: [&str; 25] = [
     "LA", "LAF", "LAL", "LAU", "LDG", "LG", "LL", "LLL", "LLU", "LVG", "MS", "OTH", "RA", "RAF",

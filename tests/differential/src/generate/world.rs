@@ -54,8 +54,22 @@ impl Entry {
         bytes
     }
 
-    fn in_force(&self, day: u32) -> bool {
-        self.start.unwrap_or(0) <= day && day <= self.end
+    fn in_force(&self, asked: Asked) -> bool {
+        self.start.unwrap_or(0) <= asked.day && asked.day <= self.end && asked.ends_from <= self.end
+    }
+}
+
+/// The day that codes must be in force on, and the first on which they may end.
+#[derive(Clone, Copy, Debug)]
+pub struct Asked {
+    pub day: u32,
+    pub ends_from: u32,
+}
+
+impl Asked {
+    /// The day alone.
+    pub fn on(day: u32) -> Asked {
+        Asked { day, ends_from: 0 }
     }
 }
 
@@ -246,7 +260,7 @@ impl World {
         for vaccine in self.codes(1) {
             for code in self.codes(other) {
                 if random.percent(90) {
-                    let end = if random.percent(80) {
+                    let end = if random.percent(75) {
                         OPEN
                     } else {
                         self.end(random)
@@ -263,20 +277,25 @@ impl World {
     }
 
     fn start(&self, random: &mut Random) -> u32 {
-        match random.below(6) {
+        match random.below(8) {
             0 => *random.pick(&self.days),
-            1 => calendar::day_after(*random.pick(&self.days)),
-            2 => calendar::any_day(random),
+            1 | 2 => calendar::day_after(*random.pick(&self.days)),
+            3 => calendar::any_day(random),
             _ => calendar::FIRST,
         }
     }
 
+    /// An end, often near to a day of the events or to today.
     fn end(&self, random: &mut Random) -> u32 {
-        match random.below(8) {
-            0 => *random.pick(&self.days),
-            1 => calendar::day_before(*random.pick(&self.days)),
+        let day = *random.pick(&self.days);
+        match random.below(12) {
+            0 => day,
+            1 => calendar::day_before(day),
             2 => calendar::any_day(random),
             3 => self.today,
+            4 => calendar::day_before(self.today),
+            5 => calendar::day_after(self.today),
+            6 | 7 => calendar::between(random, day, self.today),
             _ => OPEN,
         }
     }
@@ -339,40 +358,40 @@ impl World {
         random.pick(&codes).clone()
     }
 
-    /// A code in force on a day, if there is one.
-    pub fn good_code(&self, random: &mut Random, kind: u8, day: u32) -> Text {
-        let good = self.codes_in_force(kind, day);
+    /// A code in force, if there is one.
+    pub fn good_code(&self, random: &mut Random, kind: u8, asked: Asked) -> Text {
+        let good = self.codes_in_force(kind, asked);
         if good.is_empty() {
             return self.any_code(random, kind);
         }
         random.pick(&good).clone()
     }
 
-    fn codes_in_force(&self, kind: u8, day: u32) -> Vec<Text> {
+    fn codes_in_force(&self, kind: u8, asked: Asked) -> Vec<Text> {
         let in_force = self
             .book
             .iter()
-            .filter(|entry| entry.kind == kind && entry.in_force(day));
+            .filter(|entry| entry.kind == kind && entry.in_force(asked));
         in_force.map(|entry| entry.codes[0].clone()).collect()
     }
 
-    /// The codes of a kind in force on a day that have their pair with the
-    /// vaccine in force, or any code if there are none.
+    /// The codes of a kind in force that have their pair with the vaccine in
+    /// force, or any code if there are none.
     pub fn good_with(
         &self,
         random: &mut Random,
         pair: u8,
         other: u8,
         vaccine: &[u8],
-        day: u32,
+        asked: Asked,
     ) -> Vec<Text> {
-        let mut good = self.codes_in_force(other, day);
+        let mut good = self.codes_in_force(other, asked);
         good.retain(|code| {
             self.book.iter().any(|entry| {
                 entry.kind == pair
                     && entry.codes[0] == vaccine
                     && entry.codes[1] == *code
-                    && entry.in_force(day)
+                    && entry.in_force(asked)
             })
         });
         if good.is_empty() {

@@ -60,7 +60,12 @@ pub fn live(uli: &str, date: &str, vaccine: &str) -> Vec<u8> {
 
 /// Line, field and rule of each finding.
 pub fn findings(file: &str, ledger: &[u8]) -> Vec<(u32, u8, u8)> {
-    let list = all_findings(TODAY, file.as_bytes(), &book_e(), ledger);
+    findings_by(&book_e(), file, ledger)
+}
+
+/// The same with another book.
+pub fn findings_by(book: &[u8], file: &str, ledger: &[u8]) -> Vec<(u32, u8, u8)> {
+    let list = all_findings(TODAY, file.as_bytes(), book, ledger);
     list.iter()
         .map(|finding| (finding.line, finding.field, finding.rule))
         .collect()

@@ -21,4 +21,5 @@ judge-ia-spec =
     (λ c. search for-judge-ia)
     (λ c. search for-judge-ia)
     (λ c. search for-judge-ia)
+    (λ c. search for-judge-ia)
     (λ c. search for-judge-ia))

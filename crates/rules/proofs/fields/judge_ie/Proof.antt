@@ -22,4 +22,5 @@ judge-ie-spec =
     (λ c. search for-judge-ie)
     (λ c. search for-judge-ie)
     (λ c. search for-judge-ie)
+    (λ c. search for-judge-ie)
     (λ c. search for-judge-ie))

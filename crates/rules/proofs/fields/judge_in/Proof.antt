@@ -24,4 +24,5 @@ judge-in-spec =
     (λ c. search for-judge-in)
     (λ c. search for-judge-in)
     (λ c. search for-judge-in)
+    (λ c. search for-judge-in)
     (λ c. search for-judge-in))

@@ -11,4 +11,5 @@ here-of-spec =
     (λ c. search for-here-of)
     (λ c. search for-here-of)
     (λ c. search for-here-of)
+    (λ c. search for-here-of)
     (λ c. search for-here-of))

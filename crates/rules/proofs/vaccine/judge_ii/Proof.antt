@@ -47,4 +47,5 @@ judge-ii-spec =
     (λ c. search for-judge-ii)
     (λ c. search for-judge-ii)
     (λ c. search for-judge-ii)
+    (λ c. search for-judge-ii)
     (λ c. search for-judge-ii))

@@ -1,7 +1,7 @@
 //! II and IE records.
 
-use super::{Empty, Field, Given, Judge, Mandatory, Need, Optional};
-use crate::check::book::{Days, Pairs};
+use super::{Empty, Field, Given, Judge, Mandatory, Need, Optional, ANY_DAY};
+use crate::check::book::Pairs;
 use crate::check::findings::Finding;
 use crate::check::forms;
 use crate::check::ledger::Name;
@@ -25,7 +25,7 @@ impl Judge<'_> {
         self.number(ii);
         let uli = self.uli(ii);
         let submission = self.field(ii, 4, Mandatory, forms::submission).given();
-        self.field(ii, 5, Optional, forms::historical);
+        self.historical(ii);
         self.day = self.date(ii, 6);
         let vaccine = self.field(ii, 8, Mandatory, forms::vaccine_or_antigen);
         self.vaccine = self.code(ii, 8, &self.book.vaccines, vaccine);
@@ -44,6 +44,15 @@ impl Judge<'_> {
             }
             _ => self.blocks.leave(),
         }
+    }
+
+    /// II 5: only where it is H may a code or pair have ended before today.
+    fn historical(&mut self, ii: &Record) {
+        let indicator = self.field(ii, 5, Optional, forms::historical);
+        self.ends_from = match indicator.given() {
+            Some(()) => ANY_DAY,
+            None => self.today,
+        };
     }
 
     /// II 9 and II 10, with rules 4, 9 and 10.
@@ -101,8 +110,8 @@ impl Judge<'_> {
         let (Some(vaccine), Some(other)) = (self.vaccine, other) else {
             return;
         };
-        let in_force = |days: Days| self.day.is_none_or(|day| days.in_force(day));
-        if !pairs.find(vaccine, other).is_some_and(in_force) {
+        let pair = pairs.find(vaccine, other);
+        if !pair.is_some_and(|days| self.in_force(days)) {
             self.finding(record, field, 11);
         }
     }
