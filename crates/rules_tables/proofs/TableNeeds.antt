@@ -1,4 +1,4 @@
--- What each need of the functions on sites, methods and reasons asks.
+-- What each need of the functions on sites and reasons asks.
 -- Assumes nothing.
 use mathlib.Core.Path.{_≡_, refl, sym, ap, _∙_, subst}
 use mathlib.Core.Bool.{Bool, true, false, cond, _&&_, _||_}
@@ -14,7 +14,7 @@ use lib.Seq.{ext-getD}
 use Rattle.house.specs.Text.{Text, bytes, any, all, orderOf, same, oneOf, pad}
 use Rattle.house.proofs.Facts.{both, both5, either, is-true, bool-ext}
 use Rattle.house.proofs.Decisions.{same-is, is-same, not-same}
-use Rattle.rules_definitions.specs.Codes.{isSite, isMethod, reasonRead}
+use Rattle.rules_definitions.specs.Codes.{isSite, reasonRead}
 use Rattle.rules_definitions.specs.Rules.{without, siteWrong, methodWrong}
 use Rattle.rules_tables.specs.Packed.{packedOf, Packed}
 
@@ -118,27 +118,17 @@ all-there (x ∷ xs) ys t h k =
 reordered : (xs ys : List Text) (t : Text) → T (all (oneOf ys) xs) → T (all (oneOf xs) ys) → oneOf xs t ≡ oneOf ys t
 reordered xs ys t h k = bool-ext (oneOf xs t) (oneOf ys t) (all-there xs ys t h) (all-there ys xs t k)
 
--- the sites and the methods by length, and by their bytes
+-- the sites by length, and by their bytes
 abbrev siteTexts : List Text
 siteTexts = bytes "LA" ∷ bytes "LG" ∷ bytes "LL" ∷ bytes "MO" ∷ bytes "MS" ∷ bytes "NO" ∷ bytes "RA" ∷ bytes "RG" ∷ bytes "RL" ∷ bytes "VE" ∷ bytes "WO" ∷ bytes "LAF" ∷ bytes "LAL" ∷ bytes "LAU" ∷ bytes "LDG" ∷ bytes "LLL" ∷ bytes "LLU" ∷ bytes "LVG" ∷ bytes "OTH" ∷ bytes "RAF" ∷ bytes "RAL" ∷ bytes "RAU" ∷ bytes "RDG" ∷ bytes "RLL" ∷ bytes "RLU" ∷ bytes "RVG" ∷ bytes "UNK" ∷ []
 
 abbrev siteNumbers : List ℕ
 siteNumbers = 38553344 ∷ 38554624 ∷ 38620928 ∷ 38621952 ∷ 38686464 ∷ 38945024 ∷ 38946560 ∷ 38947840 ∷ 39208192 ∷ 39276288 ∷ 55329094 ∷ 55329100 ∷ 55329109 ∷ 55329863 ∷ 55331916 ∷ 55331925 ∷ 55334471 ∷ 55530568 ∷ 55722310 ∷ 55722316 ∷ 55722325 ∷ 55723079 ∷ 55725132 ∷ 55725141 ∷ 55727687 ∷ 55922251 ∷ []
 
-abbrev methodTexts : List Text
-methodTexts = bytes "G" ∷ bytes "ID" ∷ bytes "IM" ∷ bytes "IN" ∷ bytes "IV" ∷ bytes "PO" ∷ bytes "SC" ∷ bytes "INF" ∷ bytes "OTH" ∷ bytes "UNK" ∷ []
-
-abbrev methodNumbers : List ℕ
-methodNumbers = 38355968 ∷ 38358272 ∷ 38358528 ∷ 38360576 ∷ 38817536 ∷ 39011072 ∷ 55135814 ∷ 55530568 ∷ 55922251 ∷ []
-
 module _ (t : Text) (n : ℕ) (e : Packed t n) where
   sites-are : any (eqb n) (38551808 ∷ siteNumbers) ≡ isSite t
   unfolding isSite packedOf orderOf same
   sites-are = among t n e siteTexts tt ∙ reordered siteTexts (bytes "LA" ∷ bytes "LAF" ∷ bytes "LAL" ∷ bytes "LAU" ∷ bytes "LDG" ∷ bytes "LG" ∷ bytes "LL" ∷ bytes "LLL" ∷ bytes "LLU" ∷ bytes "LVG" ∷ bytes "MO" ∷ bytes "MS" ∷ bytes "NO" ∷ bytes "OTH" ∷ bytes "RA" ∷ bytes "RAF" ∷ bytes "RAL" ∷ bytes "RAU" ∷ bytes "RDG" ∷ bytes "RG" ∷ bytes "RL" ∷ bytes "RLL" ∷ bytes "RLU" ∷ bytes "RVG" ∷ bytes "VE" ∷ bytes "WO" ∷ bytes "UNK" ∷ []) t tt tt
-
-  methods-are : any (eqb n) (21430272 ∷ methodNumbers) ≡ isMethod t
-  unfolding isMethod packedOf orderOf same
-  methods-are = among t n e methodTexts tt ∙ reordered methodTexts (bytes "G" ∷ bytes "ID" ∷ bytes "IM" ∷ bytes "IN" ∷ bytes "INF" ∷ bytes "IV" ∷ bytes "PO" ∷ bytes "SC" ∷ bytes "OTH" ∷ bytes "UNK" ∷ []) t tt tt
 
   pub site-yes : OneIn n 38551808 siteNumbers → true ≡ isSite t
   site-yes h = sym (is-in n 38551808 siteNumbers h) ∙ sites-are
@@ -146,13 +136,7 @@ module _ (t : Text) (n : ℕ) (e : Packed t n) where
   pub site-no : (OneIn n 38551808 siteNumbers → ⊥) → false ≡ isSite t
   site-no h = sym (not-in n 38551808 siteNumbers h) ∙ sites-are
 
-  pub method-yes : OneIn n 21430272 methodNumbers → true ≡ isMethod t
-  method-yes h = sym (is-in n 21430272 methodNumbers h) ∙ methods-are
-
-  pub method-no : (OneIn n 21430272 methodNumbers → ⊥) → false ≡ isMethod t
-  method-no h = sym (not-in n 21430272 methodNumbers h) ∙ methods-are
-
-pub ruleset for-listed = (needs, site-yes, site-no, method-yes, method-no)
+pub ruleset for-listed = (needs, site-yes, site-no)
 
 -- reason_read
 pub read-none : (t : Text) → length t ≡ 0 → 32 ∷ 32 ∷ [] ≡ pad 2 (reasonRead t)

@@ -1,9 +1,12 @@
 // Sites, methods and reasons: the codes that need no book, and rule 9 between a site and a method.
+mod methods;
+
+pub use methods::is_method;
 ghost use mathlib.Core.Path.{_≡_};
 ghost use Prim.Native.Nat.{_<_};
 ghost use lib.ListN.{getD};
 ghost use Rattle.house.specs.Text.{pad};
-ghost use Rattle.rules_definitions.specs.Codes.{isSite, isMethod, reasonRead};
+ghost use Rattle.rules_definitions.specs.Codes.{isSite, reasonRead};
 ghost use Rattle.rules_definitions.specs.Rules.{without, siteWrong, methodWrong};
 ghost use Rattle.rules_tables.specs.Packed.{Packed};
 
@@ -69,25 +72,6 @@ pub fn is_site(t: &[u8]) -> bool
         | 0x03524C4C
         | 0x03524C55
         | 0x03525647
-        | 0x03554E4B => true,
-        _ => false,
-    }
-}
-
-// Whether a text is one of the methods, by its number: G ID IM IN IV PO SC INF OTH UNK.
-pub fn is_method(t: &[u8]) -> bool
-    ensures { λ r. ⌜ r ≡ isMethod (now (t .entry)) ⌝ }
-{
-    match packed(t) {
-        0x01470000
-        | 0x02494400
-        | 0x02494D00
-        | 0x02494E00
-        | 0x02495600
-        | 0x02504F00
-        | 0x02534300
-        | 0x03494E46
-        | 0x034F5448
         | 0x03554E4B => true,
         _ => false,
     }
