@@ -2,7 +2,7 @@
 -- Assumes nothing.
 use Prim.Native.Nat.{ℕ}
 use mathlib.Core.Bool.{Bool, true, not, cond, _&&_, _||_}
-use mathlib.Core.List.{[], _∷_}
+use mathlib.Core.List.{List, [], _∷_}
 use lib.Dec.{eqb}
 use Rattle.house.specs.Text.{Text, bytes, oneOf, number}
 use Rattle.lines.specs.Records.{Rec, II, IE, IN, IA}
@@ -11,14 +11,21 @@ use Rattle.rules_definitions.specs.Forms.{text, isHistorical, isSound, i
 use Rattle.rules_definitions.specs.Contexts.{headKind}
 use Rattle.rules_definitions.specs.Seen.{Setting, Seen}
 
--- "Sites (000, Table 14)". "Case counts."
+-- "Sites (000, Table 14)". "Case counts." Document 02, request 2: "grouped by arm, leg, gluteal and other"
+abbrev pub armSites : List Text
+armSites = bytes "LA" ∷ bytes "LAF" ∷ bytes "LAL" ∷ bytes "LAU" ∷ bytes "RA" ∷ bytes "RAF" ∷ bytes "RAL" ∷ bytes "RAU" ∷ []
+
+abbrev pub legSites : List Text
+legSites = bytes "LL" ∷ bytes "LLL" ∷ bytes "LLU" ∷ bytes "RL" ∷ bytes "RLL" ∷ bytes "RLU" ∷ []
+
+abbrev pub glutealSites : List Text
+glutealSites = bytes "LDG" ∷ bytes "LG" ∷ bytes "LVG" ∷ bytes "RDG" ∷ bytes "RG" ∷ bytes "RVG" ∷ []
+
+abbrev pub otherSites : List Text
+otherSites = bytes "MO" ∷ bytes "MS" ∷ bytes "NO" ∷ bytes "OTH" ∷ bytes "VE" ∷ bytes "WO" ∷ bytes "UNK" ∷ []
+
 unfoldable pub isSite : Text → Bool
-isSite t =
-    oneOf
-    (bytes "LA" ∷ bytes "LAF" ∷ bytes "LAL" ∷ bytes "LAU" ∷ bytes "LDG" ∷ bytes "LG" ∷ bytes "LL" ∷ bytes "LLL" ∷ bytes "LLU"
-    ∷ bytes "LVG" ∷ bytes "MO" ∷ bytes "MS" ∷ bytes "NO" ∷ bytes "OTH" ∷ bytes "RA" ∷ bytes "RAF" ∷ bytes "RAL" ∷ bytes "RAU"
-    ∷ bytes "RDG" ∷ bytes "RG" ∷ bytes "RL" ∷ bytes "RLL" ∷ bytes "RLU" ∷ bytes "RVG" ∷ bytes "VE" ∷ bytes "WO" ∷ bytes "UNK" ∷ [])
-    t
+isSite t = oneOf armSites t || oneOf legSites t || oneOf glutealSites t || oneOf otherSites t
 
 -- "Methods (Table 15)"
 unfoldable pub isMethod : Text → Bool

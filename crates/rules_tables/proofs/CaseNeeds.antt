@@ -1,10 +1,11 @@
--- A list of cases, and what the return of `is_method` asks.
+-- A list of cases, and what the returns of `is_site` and `is_method` ask.
 -- Assumes nothing.
 use mathlib.Core.Path.{_≡_, refl, _∙_}
 use mathlib.Core.Bool.{Bool, true, false, _||_}
 use mathlib.Core.List.{List, [], _∷_}
+use borrow.Author.Needs.{needs}
 use Rattle.house.specs.Text.{Text, bytes, same, oneOf}
-use Rattle.rules_definitions.specs.Codes.{isMethod}
+use Rattle.rules_definitions.specs.Codes.{armSites, legSites, glutealSites, otherSites, isSite, isMethod}
 
 -- `same(t, a) | same(t, b) | ..` as code has it: from the left
 abbrev orFrom : Text → Bool → List Text → Bool
@@ -36,3 +37,25 @@ methodTexts =
 pub method-listed : (t : Text) (r : Bool) → r ≡ cases t methodTexts → r ≡ isMethod t
 unfolding isMethod
 method-listed t r e = listed t methodTexts r e
+
+-- is_site
+module _ (t : Text) (a : Bool) (p : a ≡ oneOf armSites t) where
+  pub site-arm : a ≡ true → true ≡ isSite t
+  unfolding isSite
+  site-arm h = rw (← p, h)
+
+  module _ (f : a ≡ false) (b : Bool) (q : b ≡ oneOf legSites t) where
+    pub site-leg : b ≡ true → true ≡ isSite t
+    unfolding isSite
+    site-leg h = rw (← p, f, ← q, h)
+
+    module _ (g : b ≡ false) (c : Bool) (r : c ≡ oneOf glutealSites t) where
+      pub site-gluteal : c ≡ true → true ≡ isSite t
+      unfolding isSite
+      site-gluteal h = rw (← p, f, ← q, g, ← r, h)
+
+      pub site-other : c ≡ false → (d : Bool) → d ≡ oneOf otherSites t → d ≡ isSite t
+      unfolding isSite
+      site-other h d s = rw (← p, f, ← q, g, ← r, h) s
+
+pub ruleset for-is-site = (needs, site-arm, site-leg, site-gluteal, site-other)
