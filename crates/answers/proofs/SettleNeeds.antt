@@ -15,8 +15,10 @@ use Rattle.house.proofs.Decisions.{same-true}
 use Rattle.ledger.specs.Ledger.{slotsIn}
 use Rattle.ledger.specs.Updates.{updated}
 use Rattle.ledger.proofs.FoundLaws.{those-le}
-use Rattle.rules.specs.Firsts.{over, isTyped, partOf}
-use Rattle.rules.proofs.OverLaws.{over-taken, length-over, part-few}
+use Rattle.rules.specs.Firsts.{isTyped, partOf}
+use Rattle.house.specs.Over.{over}
+use Rattle.house.proofs.OverLaws.{over-taken, length-over}
+use Rattle.rules.proofs.CountLaws.{part-few}
 use Rattle.answers.specs.declared.settle.Counts.{Counts}
 use Rattle.answers.specs.declared.settle.Settled.{Settled}
 use Rattle.answers.specs.declared.settle.Settled.the-variants.{Done, NoRoom}

@@ -25,9 +25,11 @@ use Rattle.ledger.specs.declared.Validity.the-variants as the-ledger
 use Rattle.ledger.proofs.EventLaws.{among-in}
 use Rattle.ledger.specs.Ledger.{ledgerOk, liveIn, validOf as ledgerValid}
 use Rattle.rules.specs.Findings.{Finding, areaAfter}
-use Rattle.rules.specs.Firsts.{firstsOf, indexOf, over, canBuild, builtIn}
+use Rattle.rules.specs.Firsts.{firstsOf, indexOf, canBuild, builtIn}
 use Rattle.rules.proofs.CleanLaws.{clean-file}
-use Rattle.rules.proofs.OverLaws.{over-taken, length-over, index-size}
+use Rattle.house.specs.Over.{over}
+use Rattle.house.proofs.OverLaws.{over-taken, length-over}
+use Rattle.rules.proofs.CountLaws.{index-size}
 use Rattle.rules.proofs.SizeLaws.{blocks-size, capacity}
 use Rattle.rules.specs.declared.By.{By}
 use Rattle.rules.specs.declared.Judged.{Judged}

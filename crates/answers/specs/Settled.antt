@@ -10,7 +10,8 @@ use Rattle.house.specs.Text.{Text}
 use Rattle.lines.specs.Sorted.{placesMost}
 use Rattle.ledger.specs.Ledger.{slotsIn}
 use Rattle.ledger.specs.Updates.{updated}
-use Rattle.rules.specs.Firsts.{over, partOf}
+use Rattle.rules.specs.Firsts.{partOf}
+use Rattle.house.specs.Over.{over}
 use Rattle.answers.specs.declared.settle.Counts.{Counts}
 use Rattle.answers.specs.declared.settle.Settled.{Settled}
 use Rattle.answers.specs.declared.settle.Settled.the-variants.{Done, NoRoom}

@@ -13,4 +13,5 @@ pub mod DigitLaws
 pub mod KeyLaws
 pub mod Padding
 pub mod NumberLaws
+pub mod OverLaws
 pub mod OneAnswer

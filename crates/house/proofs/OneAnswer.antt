@@ -2,8 +2,9 @@
 -- Assumes nothing.
 use mathlib.Core.Path.{_≡_, ap, sym, _∙_}
 use mathlib.Core.Bool.{Bool}
+use mathlib.Core.List.{List}
 use Prim.Native.Nat.{ℕ}
-use lib.ListN.{length}
+use lib.ListN.{length, set}
 use Rattle.house.specs.declared.Order.{Order}
 use Rattle.house.specs.declared.Key.{Key}
 use Rattle.house.specs.Text.{Text, all, within, orderOf, below, same, pad, isPadded, digits}
@@ -51,3 +52,6 @@ greater-byte-one a b x y p q = cc
 
 pub lesser-one : (m n x y : ℕ) → x ≡ lesserOf m n → y ≡ lesserOf m n → x ≡ y
 lesser-one m n x y p q = cc
+
+pub put-one : (out : List ℕ) (n p : ℕ) (x y : List ℕ) → x ≡ set out n p → y ≡ set out n p → x ≡ y
+put-one out n p x y e f = cc

@@ -5,4 +5,5 @@ pub mod Members
 pub mod Search
 pub mod Key
 pub mod Numbers
+pub mod Over
 pub mod Inside

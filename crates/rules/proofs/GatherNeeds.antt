@@ -15,11 +15,12 @@ use Rattle.lines.proofs.PartLaws.{recs-past, recs-on}
 use Rattle.rules_definitions.specs.Contexts.{contextsOf, contextsIn}
 use Rattle.rules_definitions.specs.Seen.{Setting}
 use Rattle.rules_definitions.specs.Findings.{Finding, areaAfter}
-use Rattle.rules_walk.specs.Firsts.{startAfter, firstsOf, over}
+use Rattle.rules_walk.specs.Firsts.{startAfter, firstsOf}
 use Rattle.rules_walk.specs.Inside.{firstsFrom}
 use Rattle.rules_walk.proofs.PassLaws.{firsts-on, firsts-start, firsts-none}
 use Rattle.rules_walk.proofs.StartLaws.{start-upto}
-use Rattle.rules_walk.proofs.OverLaws.{over-more}
+use Rattle.house.specs.Over.{over}
+use Rattle.house.proofs.OverLaws.{over-more}
 use Rattle.rules.specs.declared.State.{State}
 use Rattle.rules.specs.Inside.{Kept, kept, keep}
 use Rattle.rules.specs.Fields.{lineMost}

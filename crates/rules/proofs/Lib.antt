@@ -46,4 +46,4 @@ pub use Rattle.rules_definitions.proofs.CleanLaws
 pub use Rattle.rules_walk.proofs.PassLaws
 pub use Rattle.rules_walk.proofs.SizeLaws
 pub use Rattle.rules_walk.proofs.TypeLaws
-pub use Rattle.rules_walk.proofs.OverLaws
+pub use Rattle.rules_walk.proofs.CountLaws

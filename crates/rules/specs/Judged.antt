@@ -10,7 +10,8 @@ use Rattle.house.specs.Text.{Text, howMany}
 use Rattle.lines.specs.Records.{IN, isKind, recs}
 use Rattle.rules_definitions.specs.Seen.{Setting}
 use Rattle.rules_definitions.specs.Findings.{Finding, findingsOf, areaAfter}
-use Rattle.rules_walk.specs.Firsts.{fileMost, firstsOf, indexOf, over, canBuild, builtIn}
+use Rattle.rules_walk.specs.Firsts.{fileMost, firstsOf, indexOf, canBuild, builtIn}
+use Rattle.house.specs.Over.{over}
 use Rattle.rules.specs.declared.Judged.{Judged}
 use Rattle.rules.specs.declared.Walked.{Walked}
 use Rattle.rules.specs.declared.By.{By}

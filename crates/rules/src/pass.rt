@@ -63,7 +63,7 @@ fn walk(
         let first = at as u32;
         at = here.next;
         if begins(here.facts) {
-            rules_walk::put(firsts, blocks, first);
+            house::put(firsts, blocks, first);
             blocks += 1;
             continue;
         }

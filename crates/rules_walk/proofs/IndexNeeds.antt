@@ -13,8 +13,10 @@ use Rattle.house.specs.Text.{Text}
 use Rattle.lines_places.specs.Events.{eventsAt, ascends}
 use Rattle.lines_places.specs.Sorted.{canSort, sortedAt, sortedApart}
 use Rattle.rules_walk.specs.declared.Built.the-variants.{Blocks, TooMany}
-use Rattle.rules_walk.specs.Firsts.{firstsOf, indexOf, over, canBuild, builtIn, canSortFront, frontOf, frontIn}
-use Rattle.rules_walk.proofs.OverLaws.{over-front, length-over, index-size}
+use Rattle.rules_walk.specs.Firsts.{firstsOf, indexOf, canBuild, builtIn, canSortFront, frontOf, frontIn}
+use Rattle.house.specs.Over.{over}
+use Rattle.house.proofs.OverLaws.{over-front, length-over}
+use Rattle.rules_walk.proofs.CountLaws.{index-size}
 
 -- sort_front
 pub front-size : (n : ℕ) (old : List ℕ) → n ≤ length old → n ≡ length (take n old)

@@ -8,7 +8,7 @@ pub mod IndexLaws
 pub mod OnceLaws
 pub mod NotedLaws
 pub mod StartLaws
-pub mod OverLaws
+pub mod CountLaws
 pub mod BlockNeeds
 pub mod IndexNeeds
 -- What the functions' own needs ask

@@ -4,10 +4,11 @@ use mathlib.Core.Path.{_≡_, sym, _∙_}
 use mathlib.Core.Bool.{Bool}
 use mathlib.Core.List.{List}
 use Prim.Native.Nat.{ℕ}
-use lib.ListN.{length, set}
+use lib.ListN.{length}
 use Rattle.house.specs.Text.{Text}
 use Rattle.rules_walk.specs.declared.Built.{Built}
-use Rattle.rules_walk.specs.Firsts.{over, soundFour, frontOf, frontIn, partOf}
+use Rattle.house.specs.Over.{over}
+use Rattle.rules_walk.specs.Firsts.{soundFour, frontOf, frontIn, partOf}
 use Rattle.rules_walk.specs.Repeats.{repeatsIn, isNoted, noteAll}
 
 one : {A : Type 0} {x r q : A} → r ≡ x → q ≡ x → r ≡ q
@@ -23,9 +24,6 @@ sort-index f area n r q s t = two
 
 four-sound : (t u v w : Text) (r q : Bool) → r ≡ soundFour t u v w → q ≡ soundFour t u v w → r ≡ q
 four-sound t u v w r q = one
-
-put : (out : List ℕ) (n p : ℕ) (s t : List ℕ) → s ≡ set out n p → t ≡ set out n p → s ≡ t
-put out n p s t = one
 
 is-noted : (table : Text) (p : ℕ) (r q : Bool) → r ≡ isNoted table p → q ≡ isNoted table p → r ≡ q
 is-noted table p r q = one

@@ -10,12 +10,13 @@ use borrow.Author.Needs.{needs}
 use lib.ListN.{length, getD, take, drop, set, length-set, take-append-drop}
 use lib.Seq.{drop-set-lt}
 use Rattle.house.specs.Text.{Text, same}
-use Rattle.house.proofs.Suffix.{drop-here, drop-past, set-past}
+use Rattle.house.specs.Over.{over}
+use Rattle.house.proofs.Suffix.{drop-here, drop-past}
 use Rattle.lines_fields.specs.declared.LineAt.{LineAt}
 use Rattle.lines_fields.specs.Lines.{lineOf, LineIs}
 use Rattle.lines_fields.specs.Marks.{judgedOf}
 use Rattle.lines_fields.proofs.LineLaws.{lines-past, at-text, at-from, at-in}
-use Rattle.rules_walk.specs.Firsts.{over, isTyped, partOf}
+use Rattle.rules_walk.specs.Firsts.{isTyped, partOf}
 
 -- line_text
 pub text-none : (f : Text) (at : ℕ) → length f ≤ at → [] ≡ lineOf (drop at f) .text
@@ -33,9 +34,6 @@ unfolding isTyped
 typed-is f letter p at g r i a c = c ∙ rw (a, i)
 
 pub ruleset for-is-typed = (needs, typed-is)
-
--- put
-pub ruleset for-put = (needs, set-past)
 
 -- a place written at n
 over-nil : (xs : List ℕ) → over xs [] ≡ []

@@ -6,6 +6,7 @@ use mathlib.Core.List.{List, [], _∷_, _++_, map}
 use lib.ListN.{length, take, drop}
 use lib.Dec.{ltb, leb}
 use Rattle.house.specs.Text.{Text, any, those, same}
+use Rattle.house.specs.Over.{over}
 use Rattle.dates.specs.Dates.{isDate}
 use Rattle.lines_fields.specs.Lines.{lineOf, linesLen}
 use Rattle.lines_fields.specs.Marks.{judgedOf}
@@ -48,12 +49,6 @@ unfoldable pub namedBefore : Text → ℕ → Event → Bool
 namedBefore f b e = any (λ (p : ℕ). ltb p b && same (eventAt f p) e) (firstsOf f)
 
 -- What is written into an area
-
--- a list written over the front of an area, as much of it as fits; the rest of the area is as it was
-abbrev pub over : List ℕ → List ℕ → List ℕ
-over [] area = area
-over (x ∷ xs) [] = []
-over (x ∷ xs) (a ∷ area) = x ∷ over xs area
 
 -- the longest file whose index is built
 abbrev pub fileMost : ℕ

@@ -2,13 +2,11 @@
 // earlier block names, and its parts by submission type.
 mod blocks;
 mod index;
-mod line;
 mod parts;
 mod repeats;
 
 pub use blocks::four_sound;
 pub use index::sort_index;
-pub use line::put;
 pub use parts::count_of;
 pub use parts::keep;
 pub use parts::part_of;

@@ -1,9 +1,10 @@
 // The parts of an index by submission type.
-use crate::line::put;
+use house::put;
 use house::wide;
 ghost use mathlib.Core.Path.{_≡_};
 ghost use lib.ListN.{length};
-ghost use Rattle.rules_walk.specs.Firsts.{over, isTyped, partOf};
+ghost use Rattle.rules_walk.specs.Firsts.{isTyped, partOf};
+ghost use Rattle.house.specs.Over.{over};
 
 // Whether the line at a place is of a type.
 fn is_typed(file: &[u8], p: u32, letter: u8) -> bool

@@ -1,17 +1,14 @@
--- A list written over the front of an area, and the index there.
+-- A list written over the front of an area.
 -- Assumes nothing.
 use mathlib.Core.Path.{_≡_, refl, ap, _∙_}
 use mathlib.Core.List.{List, [], _∷_, _++_}
 use Prim.Native.Nat.{ℕ, _≤_}
-use native.Mathlib.Nat.{add-zero}
 use native.Mathlib.Omega.{arith}
 use lib.ListN.{length, take, drop, set}
 use lib.Seq.{take-at}
-use Rattle.house.specs.Text.{Text}
-use Rattle.lines_places.specs.Events.{eventAt}
-use Rattle.lines_places.proofs.Order.{length-place}
-use Rattle.ledger.proofs.FoundLaws.{those-le}
-use Rattle.rules_walk.specs.Firsts.{firstsOf, indexOf, over, isTyped, partOf}
+use borrow.Author.Needs.{needs}
+use Rattle.house.specs.Over.{over}
+use Rattle.house.proofs.Suffix.{set-past}
 
 pub over-front : (xs out : List ℕ) → length xs ≤ length out → over xs out ≡ xs ++ drop (length xs) out
 over-front [] out h = refl
@@ -35,12 +32,5 @@ length-over [] out = refl
 length-over (x ∷ xs) [] = refl
 length-over (x ∷ xs) (y ∷ out) = omega (arith, length-over xs out)
 
--- the index has a place for each block
-pub index-size : (f : Text) → length (indexOf f) ≡ length (firstsOf f)
-unfolding indexOf
-index-size f = length-place (eventAt f) (firstsOf f) [] ∙ add-zero (length (firstsOf f))
-
--- a part of some places has no more of them
-pub part-few : (f : Text) (type : ℕ) (ps : List ℕ) → length (partOf f type ps) ≤ length ps
-unfolding partOf
-part-few f type ps = those-le (isTyped f type) ps
+-- put
+pub ruleset for-put = (needs, set-past)

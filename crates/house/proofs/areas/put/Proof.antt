@@ -1,6 +1,6 @@
-use Rattle.rules_walk.proofs.PartNeeds.{for-put}
-use Rattle.rules_walk.proofs.line.put.Statement.{statement}
-use Rattle.rules_walk.proofs.line.put.Tie as tie
+use Rattle.house.proofs.OverLaws.{for-put}
+use Rattle.house.proofs.areas.put.Statement.{statement}
+use Rattle.house.proofs.areas.put.Tie as tie
 
 pub put-spec : {M : Type 1} → statement M
 put-spec =
