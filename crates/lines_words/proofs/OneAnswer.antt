@@ -1,0 +1,24 @@
+-- For each public function: no second answer meets its contract.
+-- Assumes nothing.
+use mathlib.Core.Path.{_≡_}
+use mathlib.Core.Bool.{Bool}
+use mathlib.Core.List.{List}
+use Prim.Native.Nat.{ℕ}
+use lib.ListN.{length}
+use Rattle.house.specs.Text.{Text}
+use Rattle.house.specs.Over.{over}
+use Rattle.lines_words.specs.Words.{keyAt, inOrder, hasBetween, keysAmong, apart}
+
+module _ (s : Text) (what : ℕ) (es : List ℕ) where
+  pub sort-one : (x y : List ℕ) → x ≡ inOrder (keyAt what s) es → y ≡ inOrder (keyAt what s) es → x ≡ y
+  sort-one x y p q = cc
+
+  pub has-between-one : (from e : ℕ) (x y : Bool) → x ≡ hasBetween (keyAt what s) es from e → y ≡ hasBetween (keyAt what s) es from e → x ≡ y
+  has-between-one from e x y p q = cc
+
+  pub keys-among-one : (fs : List ℕ) (x y : Bool) → x ≡ keysAmong (keyAt what s) es fs → y ≡ keysAmong (keyAt what s) es fs → x ≡ y
+  keys-among-one fs x y p q = cc
+
+  pub keep-apart-one : (x y : ℕ) (a b : List ℕ) → x ≡ length (apart (keyAt what s) es) → y ≡ length (apart (keyAt what s) es)
+      → a ≡ over (apart (keyAt what s) es) es → b ≡ over (apart (keyAt what s) es) es → (x ≡ y) × (a ≡ b)
+  keep-apart-one x y a b p q u v = (cc, cc)
