@@ -211,7 +211,7 @@ module _ (a b : List Rec) (x : Bool) (e : x ≡ all (countIn b) a) where
 pub ruleset for-rule13-sets-differ = (needs, step-same, differ-first, differ-second, differ-not)
 
 module _ (l u : Text) (d : u ≡ judgedOf l 4) (x : Bool) (e : x ≡ soundIn 5 false 4 u) where
-  antigen-sound : isSound 5 (recOf l) 4 ≡ x
+  pub antigen-sound : isSound 5 (recOf l) 4 ≡ x
   antigen-sound =
       sym (sound-in 5 (recOf l) 4) ∙ sound-either 5 4 (text (recOf l) 4) (isRelaxed (recOf l)) false refl ∙ rw (text-is l 4, ← d) (sym e)
 

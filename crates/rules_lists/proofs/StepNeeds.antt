@@ -54,7 +54,7 @@ module _ (a b : Text) (at by : ℕ) (x : Bool) (inv : x ≡ inStep (recs (drop a
       unfolding inStep
       step-on z = rw (inv, recs-on a at q e h, recs-on b by p f k, ← g, z)
 
-pub ruleset for-in-step = (needs, step-end, step-short, step-off, step-on, left-falls)
+pub ruleset for-rule13-in-step = (needs, step-end, step-short, step-off, step-on, left-falls)
 
 -- rule13_sets_differ: lines in step are one set
 eqb-sym : (a b : ℕ) → eqb a b ≡ eqb b a

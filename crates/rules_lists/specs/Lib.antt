@@ -1,3 +1,5 @@
--- What is asked of each of some lines.
+-- What is asked of each of some lines, and what is gathered of them.
 -- Assumes nothing.
 pub mod Among
+pub mod Entries
+pub mod Inside

@@ -1,4 +1,10 @@
 // What is asked of the lines of a part of the file: antigens, counts and lots given before.
+mod entries;
+
+pub use entries::ANTIGENS;
+pub use entries::COUNTED_ANTIGENS;
+pub use entries::LOTS;
+pub use entries::gather;
 use lines::IE;
 use lines::II;
 use lines_fields::field_start;
@@ -168,8 +174,8 @@ fn counts_alike(line: &[u8], other: &[u8]) -> bool
     has_count(other, judged_of(line, 4), dose)
 }
 
-// Whether these lines and those, one by one, give the same antigens as often.
-fn in_step(own: &[u8], first: &[u8]) -> bool
+// Rule 13: whether these lines and those, one by one, give the same antigens as often.
+pub fn rule13_in_step(own: &[u8], first: &[u8]) -> bool
     ensures { λ r. ⌜ r ≡ inStep (recs (now (own .entry))) (recs (now (first .entry))) ⌝ }
 {
     let mut at = 0;
@@ -196,7 +202,7 @@ fn in_step(own: &[u8], first: &[u8]) -> bool
 pub fn rule13_sets_differ(own: &[u8], first: &[u8]) -> bool
     ensures { λ r. ⌜ r ≡ setsDiffer (recs (now (own .entry))) (recs (now (first .entry))) ⌝ }
 {
-    if in_step(own, first) {
+    if rule13_in_step(own, first) {
         return false;
     }
     if all_counted(own, first) {
