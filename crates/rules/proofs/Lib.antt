@@ -16,6 +16,7 @@ pub mod WalkLaws
 pub mod SeenLaws
 pub mod StartLaws
 pub mod StepLaws
+pub mod AnswerLaws
 pub mod ViewLaws
 pub mod UnderLaws
 -- What the functions' own needs ask
@@ -32,6 +33,11 @@ mod LineNeeds
 mod LookNeeds
 mod ReadNeeds
 mod WalkNeeds
+mod MadeNeeds
+mod RoomNeeds
+mod AgainNeeds
+mod SetNeeds
+mod QuestionNeeds
 mod TurnNeeds
 mod GatherNeeds
 mod PassNeeds

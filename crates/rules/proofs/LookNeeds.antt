@@ -211,9 +211,9 @@ pub ruleset for-ie-end = (needs, own-end, own-stop, own-on, own-start, own-whole
 
 -- own_end
 pub own-joined : (file : Text) (joined : Bool) (from r : ℕ) → OwnIs file from r → OwnEnd file joined from r
-own-joined file joined from r o = record { joined-own = λ z. o .own-is }
+own-joined file joined from r o = record { joined-own = λ z. o .own-is; own-in = o .own-in }
 
-pub own-none : (file : Text) (joined : Bool) (from : ℕ) → joined ≡ false → OwnEnd file joined from from
-own-none file joined from n = record { joined-own = λ z. clash (cc) }
+pub own-none : (file : Text) (joined : Bool) (from : ℕ) → joined ≡ false → from ≤ length file → OwnEnd file joined from from
+own-none file joined from n l = record { joined-own = λ z. clash (cc); own-in = l }
 
 pub ruleset for-own-end = (needs, own-joined, own-none)

@@ -18,8 +18,10 @@ use Rattle.rules.specs.Look.{settingBy}
 use Rattle.rules.specs.Fields.{lineMost, Told}
 use Rattle.rules.specs.Walk.{ReadIn, LookAt, HereIs}
 use Rattle.rules.specs.Advance.{advanced}
+use Rattle.rules.specs.Questions.{AnsweredIs, AskAt}
 use Rattle.rules.specs.Turned.{Turn, TurnAt, TurnIs}
-use Rattle.rules.proofs.TurnNeeds.{turn-numbers, turn-findings, turn-read, turned-is}
+use Rattle.rules.proofs.QuestionNeeds.{nothing-made}
+use Rattle.rules.proofs.TurnNeeds.{turn-numbers, turn-findings, turn-read, turn-asks, turned-is}
 use Rattle.rules.proofs.GatherNeeds.{Gathering, gather-start, gather-at, gather-blocks, gather-in, gather-room, gather-size, gather-is, gather-falls, gather-other, gather-first}
 
 -- walk: at a line, before it is read
@@ -45,11 +47,15 @@ module _ (s : Setting) (file table area₀ : Text) (old : List ℕ) (at : ℕ) (
     pub walk-read : ReadIn file m2
     walk-read = turn-read file m now come m2 e
 
+    pub walk-asks : (ledger : Text) (live : ℕ) (y : Here) → HereIs file at st table ledger live y → AskAt file m2 y
+    walk-asks ledger live y i = turn-asks file m now come m2 e table ledger live y i
+
 -- once it is read and judged
 module _ (file book ledger : Text) (by : By) (table area₀ : Text) (old : List ℕ) (at : ℕ) (st : State) (found : ℕ) (area : Text) (firsts : List ℕ) (n : ℕ)
     (g : Gathering (settingBy by book ledger) file table area₀ old at st found area firsts n) (m : List ℕ) (r : length m ≡ 30)
     (short : length file ≤ 5000000) (l : at < length file) (m2 : List ℕ) (e : m2 ≡ marksAt file at) (y : Here) (i : HereIs file at st table ledger (by .live) y)
-    (after : Text) (c : ℕ) (j : (s : Setting) (v : Seen) → Told file m2 y book by s v → kept c after ≡ keep (fieldsFindings s (y .n) v 1 (length (v .line .fields))) (kept found area))
+    (x : Here) (q : AnsweredIs file y x)
+    (after : Text) (c : ℕ) (j : (s : Setting) (v : Seen) → Told file m2 x book by s v → kept c after ≡ keep (fieldsFindings s (x .n) v 1 (length (v .line .fields))) (kept found area))
     (k : c ≤ found + lineMost) (st2 : State) (z : st2 ≡ advanced file m2 st y) (f : Bool) (b : f ≡ y .facts .inb && not (y .facts .joined)) where
   abbrev S : Setting
   S = settingBy by book ledger
@@ -61,7 +67,7 @@ module _ (file book ledger : Text) (by : By) (table area₀ : Text) (old : List 
   next = record { at = y .next; st = st2; count = c; first = f }
 
   turned : TurnIs S file table was area next after
-  turned = turned-is file m was (gather-at S file table area₀ old at st found area firsts n g m false r short l) m2 e table ledger by y i book area after c st2 f j k z b
+  turned = turned-is file m was (gather-at S file table area₀ old at st found area firsts n g m false r short l) m2 e table ledger by y i x q book area after c st2 f j k z b
 
   pub walk-falls : length file - y .next < length file - at
   walk-falls = gather-falls S file table area₀ old at st found area firsts n g l false next after turned
@@ -86,6 +92,8 @@ pub ruleset for-walk = (
   walk-numbers,
   walk-findings,
   walk-read,
+  walk-asks,
+  nothing-made,
   walk-falls,
   walk-other,
   walk-first,

@@ -1,7 +1,7 @@
 -- What each need of the functions that read a line asks, and of those that tell what is known of it.
 -- Assumes nothing.
 use mathlib.Core.Path.{_≡_, refl, sym, ap, _∙_, subst}
-use mathlib.Core.Bool.{Bool, true}
+use mathlib.Core.Bool.{Bool, true, false}
 use mathlib.Core.List.{List}
 use Prim.Native.Nat.{ℕ, _+_, _≤_, _<_}
 use native.Mathlib.Nat.{add-zero}
@@ -82,6 +82,8 @@ module _ (file : Text) (m : List ℕ) (r : Read) (st : State) (b : BlockAt) (fs 
         own = own;
         first = st .block .first;
         facts = fs;
+        again = false;
+        differ = false;
       }) (hereWith file m r st b fs own)
   unfolding hereWith
   here-is x v d o p q = rw (o, p, q)

@@ -1,18 +1,20 @@
 -- One turn of the walk: what is known of a line leads to what is known of the next.
 -- Assumes nothing.
-use mathlib.Core.Path.{_≡_, refl, sym, ap, _∙_}
-use mathlib.Core.Bool.{Bool, true, false, not, _&&_}
+use mathlib.Core.Path.{_≡_, refl, sym, ap, _∙_, subst}
+use mathlib.Core.Bool.{Bool, true, false, not, cond, _&&_}
 use mathlib.Core.List.{List, _∷_, _++_}
 use Prim.Native.Nat.{ℕ, _+_, _^_, _≤_, _<_}
 use native.Mathlib.Numerals.{add-one}
 use native.Mathlib.Omega.{arith}
 use borrow.Author.Needs.{needs}
-use lib.ListN.{length, getD, drop}
+use lib.ListN.{length, getD, take, drop}
 use Rattle.house.specs.Text.{Text}
+use Rattle.lines_fields.specs.declared.Span.{Span}
 use Rattle.lines_fields.specs.Lines.{lineLen, lineAt}
 use Rattle.lines_fields.specs.Marks.{marksAt}
 use Rattle.lines_fields.proofs.LineLaws.{line-is, at-text}
 use Rattle.lines.specs.Records.{Rec, recOf, recs}
+use Rattle.lines.specs.Inside.{whole}
 use Rattle.lines.proofs.PartLaws.{recs-on}
 use Rattle.ledger.specs.Ledger.{foundIn}
 use Rattle.rules_definitions.specs.Seen.{Setting, Seen, seenAt}
@@ -25,8 +27,9 @@ use Rattle.rules.specs.Inside.{kept, keep}
 use Rattle.rules.specs.Look.{settingBy}
 use Rattle.rules.specs.Fields.{Looks, lineMost, Told}
 use Rattle.rules.specs.Under.{withRepeated, lineFindingsBy}
-use Rattle.rules.specs.Walk.{ReadIn, lineRec, Holds, hereWith, HereIs}
+use Rattle.rules.specs.Walk.{ReadIn, lineRec, Holds, blockBy, factsBy, hereWith, HereIs}
 use Rattle.rules.specs.Advance.{advanced}
+use Rattle.rules.specs.Questions.{answered, AnsweredIs, AskAt}
 use Rattle.rules.specs.Turned.{Turn, TurnAt, restOf, TurnIs}
 use Rattle.rules.proofs.KeepLaws.{keep-append}
 use Rattle.rules.proofs.SeenLaws as seen
@@ -107,7 +110,48 @@ module _ (file : Text) (m₀ : List ℕ) (t : Turn) (g : TurnAt file m₀ t) whe
         let z : getD m 0 0 ≡ t .at = ap (λ (x : List ℕ). getD x 0 0) e ∙ seen.its-mark file (t .at) less in
         record { inside = omega (arith, z, less); marked = e ∙ ap (marksAt file) (sym z) }
 
-    module _ (table ledger : Text) (by : By) (y : Here) (i : HereIs file (t .at) (t .st) table ledger (by .live) y) (book : Text) where
+    -- what is asked of other lines
+    module _ (table ledger : Text) (live : ℕ) (y : Here) (i : HereIs file (t .at) (t .st) table ledger live y) where
+      at-of : y .at ≡ t .at
+      unfolding hereWith
+      at-of = ap (λ (z : Here). z .at) (i .exact)
+
+      since-of : y .since ≡ t .st .since
+      unfolding hereWith
+      since-of = ap (λ (z : Here). z .since) (i .exact)
+
+      first-of : y .first ≡ t .st .block .first
+      unfolding hereWith
+      first-of = ap (λ (z : Here). z .first) (i .exact)
+
+      block-of : y .block ≡ cond (y .facts .joined) (t .st .block .run) (y .at)
+      unfolding hereWith factsBy blockBy
+      block-of = ap (λ (z : Here). z .block) (i .exact) ∙ sym (ap (λ (z : Here). cond (z .facts .joined) (t .st .block .run) (z .at)) (i .exact))
+
+      pub turn-asks : AskAt file m y
+      turn-asks =
+          record {
+            less = omega (arith, at-of, less);
+            short = g .looks .short;
+            marked = e ∙ ap (marksAt file) (sym at-of);
+            line-ends = ap (λ (n : ℕ). whole (take n file)) at-of ∙ h .ended less;
+            since-in = omega (arith, at-of, since-of, h .since-is .from);
+            block-in = omega (arith, at-of, seen.from-back file (t .at) (t .st) h less table ledger live y i);
+            block-ends = seen.before-ended file (t .at) (t .st) h less table ledger live y i;
+            on = omega (arith, at-of, seen.on file (t .at) (t .st) h less table ledger live y i);
+            next-in = seen.upto file (t .at) (t .st) h less table ledger live y i;
+            next-ends = holds-step file (t .at) (t .st) h less table ledger live y i .ended;
+            own-in = i .own-is .own-in;
+            first-in = omega (arith, ap (λ (p : Span). p .end) first-of, h .first-is .upto, less);
+            alone = λ z. block-of ∙ rw z;
+          }
+
+    module _ (table ledger : Text) (by : By) (y : Here) (i : HereIs file (t .at) (t .st) table ledger (by .live) y) (x : Here)
+        (q : AnsweredIs file y x) (book : Text) where
+      answered-number : x .n ≡ y .n
+      unfolding answered
+      answered-number = ap (λ (z : Here). z .n) (q .exact)
+
       abbrev S : Setting
       S = settingBy by book ledger
 
@@ -119,8 +163,17 @@ module _ (file : Text) (m₀ : List ℕ) (t : Turn) (g : TurnAt file m₀ t) whe
       unfolding settingBy
       lives = refl
 
+      abbrev shown : Seen
+      shown = view file (t .at) (t .st) h less table ledger (by .live) y i S
+
+      answered-told : Told file m x book by S shown
+      answered-told =
+          subst (λ (z : Here). Told file m z book by S shown) (sym (q .exact))
+          (subst (λ (k : List ℕ). Told file k (answered y (x .again) (x .differ)) book by S shown) (sym e)
+          (told file (t .at) (t .st) h less table ledger (by .live) y i S (x .again) (x .differ) (q .answers) book by looks lives))
+
       pub turned-is : (area after : Text) (c : ℕ) (st2 : State) (f : Bool)
-          → ((s : Setting) (v : Seen) → Told file m y book by s v → kept c after ≡ keep (fieldsFindings s (y .n) v 1 (length (v .line .fields))) (kept (t .count) area))
+          → ((s : Setting) (v : Seen) → Told file m x book by s v → kept c after ≡ keep (fieldsFindings s (x .n) v 1 (length (v .line .fields))) (kept (t .count) area))
           → c ≤ t .count + lineMost → st2 ≡ advanced file m (t .st) y → f ≡ y .facts .inb && not (y .facts .joined)
           → TurnIs (settingBy by book ledger) file table t area (record { at = y .next; st = st2; count = c; first = f }) after
       unfolding advanced
@@ -134,7 +187,7 @@ module _ (file : Text) (m₀ : List ℕ) (t : Turn) (g : TurnAt file m₀ t) whe
             left =
                 rw z
                 (turn-left file (t .at) (t .st) h less table ledger (by .live) y i S (t .count) c area after
-                (rw e at (j S (view file (t .at) (t .st) h less table ledger (by .live) y i S)) (told file (t .at) (t .st) h less table ledger (by .live) y i S book by looks lives)));
+                (j S shown answered-told ∙ ap (λ (n : ℕ). keep (fieldsFindings S n shown 1 (length (shown .line .fields))) (kept (t .count) area)) answered-number));
             first-is = seen.begins-is file (t .at) (t .st) h less table ledger (by .live) y i f b;
             before-is = sym (seen.step file (t .at) (t .st) h less table ledger (by .live) y i);
           }

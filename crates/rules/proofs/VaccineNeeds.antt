@@ -2,52 +2,38 @@
 -- Assumes nothing.
 use mathlib.Core.Path.{_≡_, refl, sym, ap, _∙_, subst}
 use mathlib.Core.Logic.{inl, inr}
-use mathlib.Core.Bool.{Bool, true, false, cond, _&&_}
+use mathlib.Core.Bool.{Bool, true, false, cond}
 use mathlib.Core.List.{List}
 use Prim.Native.Nat.{ℕ, _≤_}
 use native.Mathlib.Omega.{arith}
 use borrow.Author.Needs.{needs}
-use Rattle.house.specs.Text.{Text, isEmpty, pad, those}
+use Rattle.house.specs.Text.{Text, isEmpty, pad}
 use Rattle.lines_fields.specs.Marks.{judgedIn}
 use Rattle.lines_fields.specs.Inside.{part}
-use Rattle.lines.specs.Records.{Rec, II, isKind, recs}
+use Rattle.lines.specs.Records.{Rec, II}
 use Rattle.book.specs.Book.{codeText}
 use Rattle.rules_definitions.specs.Forms.{text, isRelaxed}
 use Rattle.rules_definitions.specs.Seen.{Setting, Seen}
 use Rattle.rules_definitions.specs.Codes.{isSite, isMethod, bookKind, reasonRead, codeRead, codeIn, pairKind, pairIn}
-use Rattle.rules_definitions.specs.Rules.{countsSound, setsDiffer, sameLot, brokenAt}
+use Rattle.rules_definitions.specs.Rules.{brokenAt}
 use Rattle.rules_forms.specs.TextLeaves.{valueOf}
 use Rattle.rules_forms.specs.FieldLeaves.{lowest, lowestIn}
 use Rattle.rules_forms.proofs.FieldLaws.{given-in, lacks-in}
 use Rattle.rules_forms.proofs.SoundLaws.{ii-2, ii-6}
 use Rattle.rules_plain.specs.PlainFields.{rule7By, rule6By, rule8By, rule14By}
-use Rattle.rules_plain.proofs.PlainLaws.{rule14-lot-later}
 use Rattle.rules_fields.specs.declared.Broken.{Broken}
 use Rattle.rules_fields.specs.declared.Day.{Day}
-use Rattle.rules_fields.specs.Fields.{broken, rules4and5Of, rules16to18At, codeBy, pairField, rule10By, rule11By, rule13By, ii4Type, ii8Vaccine, ii9Site, ii10Method, ii11Reason, ii12Dosage, ii13DosageType}
+use Rattle.rules_fields.specs.Fields.{broken, rules4and5Of, rules16to18At, codeBy, pairField, rule10By, rule11By, ii4Type, ii8Vaccine, ii9Site, ii10Method, ii11Reason, ii12Dosage, ii13DosageType}
 use Rattle.rules.specs.declared.By.{By}
 use Rattle.rules.specs.declared.Here.{Here}
 use Rattle.rules.specs.Inside.{listed}
-use Rattle.rules.specs.Fields.{iiDay, AskedOn, Blocked, Told, Judges, relaxedIn, ii8In}
+use Rattle.rules.specs.Fields.{iiDay, AskedOn, Blocked, Told, Judges, relaxedIn}
 use Rattle.rules.proofs.ToldLaws.{text-told, relaxed-told, kind-told, ii-asked, judges-rest, judges-at}
 use Rattle.rules.proofs.LowestLaws.{low, one-broken, rules1-and-2-broken, rule7-number-broken, rule6-uli-broken, rule8-date-broken}
 use Rattle.rules.proofs.CodeLaws.{codeOf, rules4-and-5-seen, rule11-pair-seen, rules4-and-5-low, rules4-and-5-broken}
 use Rattle.rules.proofs.ReasonLaws.{reason-code, reason-pair}
 use Rattle.rules.proofs.HeadNeeds.{three-same}
 use Rattle.rules.proofs.AtLaws.{codeNumber, pairNumber, lackNumber, at-ii-2, at-ii-3, rules16-to-18-ii4, at-ii-6, at-ii-8, at-ii-9, at-ii-10, at-ii-11, at-ii-12, at-ii-13, at-ii-14, at-ii-15, at-ii-rest}
-use Rattle.rules.proofs.RuleLaws.{any-reverse, rule13-sets-back}
-
--- judge_ii8
-pub vaccine-in : (file : Text) (h : Here) (book : Text) (by : By) (t own first : Text) (day : Day) (b : Broken) → own ≡ part file (h .next) (h .own)
-    → first ≡ part file (h .first .start) (h .first .end) → b ≡ ii8Vaccine t own first book (by .sections) day (h .facts) → b ≡ ii8In file h book by day t
-vaccine-in file h book by t own first day b c d e = rw (← c, ← d) e
-
-pub ruleset for-judge-ii8 = (needs, vaccine-in)
-
--- what is asked where a fact holds counts only there
-masked : (j : Bool) (F : List Rec → Bool) (xs ys : List Rec) → (j ≡ true → ys ≡ xs) → (j && F xs) ≡ (j && F ys)
-masked true F xs ys h = ap F (sym (h refl))
-masked false F xs ys h = refl
 
 live-only : (t : Text) (i x y : Bool) → (i ≡ true → y ≡ x) → rules16to18At i t x ≡ rules16to18At i t y
 unfolding rules16to18At
@@ -69,7 +55,7 @@ module _ (file : Text) (marks : List ℕ) (h : Here) (book : Text) (by : By) (x 
     day-ii : AskedOn day s v
     day-ii = subst (λ (d : Day). AskedOn d s v) (sym ds) (ii-asked file marks h book by s v w kind-ii)
 
-    bl : Blocked file h v
+    bl : Blocked h v
     bl = w .blocked kind-ii
 
     vaccine-ii : (q : Text) → q ≡ part file (h .vaccine .start) (h .vaccine .end) → text (v .head) 8 ≡ q
@@ -92,19 +78,10 @@ module _ (file : Text) (marks : List ℕ) (h : Here) (book : Text) (by : By) (x 
         (ap (λ (i : Bool). rules16to18At i t (h .facts .live)) (sym (bl .inb-is)) ∙ live-only t (v .in-block) (h .facts .live) (v .live) (bl .live-is) ∙ rw e) refl
         ∙ sym (rules16-to-18-ii4 s v kind-ii)
 
-    rule13-8 : rule13By (h .facts .joined) (part file (h .next) (h .own)) (part file (h .first .start) (h .first .end))
-        ≡ cond (v .not-first && (countsSound (v .own) && (countsSound (v .first) && setsDiffer (v .own) (v .first)))) 13 0
-    rule13-8 =
-        let own = recs (part file (h .next) (h .own)) in
-        let first = recs (part file (h .first .start) (h .first .end)) in
-        ap (λ (u : Bool). cond u 13 0)
-        (masked (h .facts .joined) (λ (os : List Rec). countsSound os && (countsSound first && setsDiffer os first)) own (v .own) (bl .own-is))
-        ∙ rw (rule13-sets-back (v .own) first, bl .joined-is, bl .first-is)
-
-    at-8 : (t : Text) → t ≡ text (v .line) 8 → listed (ii8In file h book by day t) ≡ brokenAt s v 8
+    at-8 : (t : Text) → t ≡ text (v .line) 8 → listed (ii8Vaccine t (h .differ) book (by .sections) day (h .facts .repeated)) ≡ brokenAt s v 8
     unfolding ii8Vaccine bookKind codeRead
     at-8 t e =
-        three-same _ _ _ _ _ _ (rules4-and-5-low s v by book day (w .looks) day-ii II 8 1 t false e (inl refl) refl refl) rule13-8 (rw (bl .repeated-is))
+        three-same _ _ _ _ _ _ (rules4-and-5-low s v by book day (w .looks) day-ii II 8 1 t false e (inl refl) refl refl) (ap (λ (u : Bool). cond u 13 0) (sym (bl .differ-is))) (rw (bl .repeated-is))
         ∙ sym (at-ii-8 s v kind-ii)
 
     module _ (t u : Text) where
@@ -149,20 +126,17 @@ module _ (file : Text) (marks : List ℕ) (h : Here) (book : Text) (by : By) (x 
     unfolding ii11Reason
     at-11 t q e he = three-same _ _ _ _ _ _ (code-11 t e) (pair-11 t q e he) refl ∙ sym (at-ii-11 s v kind-ii)
 
-    at-15 : (t q : Text) → t ≡ text (v .line) 15 → q ≡ part file (h .block) (h .at) → listed (broken (lowestIn II x 15 t (rule14By t (recs q))) 0 0) ≡ brokenAt s v 15
-    at-15 t q e c =
+    at-15 : (t : Text) → t ≡ text (v .line) 15 → listed (broken (lowestIn II x 15 t (rule14By (h .again))) 0 0) ≡ brokenAt s v 15
+    at-15 t e =
         one-broken s v 15 _ _
-        (low-ii 15 t e (λ (u : Text). rule14By u (recs q))
-        ∙ ap (lowest II L 15)
-        (rule14-lot-later L (text L 15) (recs q) refl
-        ∙ rw (bl .block-is, ← c, any-reverse (sameLot L) (those (isKind II) (recs q)))))
+        (low-ii 15 t e (λ (u : Text). rule14By (h .again)) ∙ ap (λ (u : Bool). lowest II L 15 (cond u 14 0)) (sym (bl .again-is)))
         (at-ii-15 s v kind-ii)
 
   module _ (f : ℕ) (b : Broken) (t : Text) (d : t ≡ judgedIn file marks f) where
     pub need-ii-4 : f ≡ 4 → b ≡ ii4Type t (h .facts) → Judges file marks h book by f b
     need-ii-4 e p = judges-at file marks h book by f b t d 4 (omega arith) e (λ s v w c. rw p (at-4 s v w t c))
 
-    pub need-ii-8 : f ≡ 8 → b ≡ ii8In file h book by day t → Judges file marks h book by f b
+    pub need-ii-8 : f ≡ 8 → b ≡ ii8Vaccine t (h .differ) book (by .sections) day (h .facts .repeated) → Judges file marks h book by f b
     need-ii-8 e p = judges-at file marks h book by f b t d 8 (omega arith) e (λ s v w c. rw p (at-8 s v w t c))
 
     module _ (u : Text) where
@@ -208,8 +182,8 @@ module _ (file : Text) (marks : List ℕ) (h : Here) (book : Text) (by : By) (x 
           (λ s v w c.
           rw (p, z) (rules4-and-5-broken s v by book day (w .looks) (day-ii s v w) 4 14 4 x t c (inr (relaxed-ii s v w)) refl refl (at-ii-14 s v (kind-ii s v w))))
 
-      pub need-ii-15 : f ≡ 15 → (q : Text) → q ≡ part file (h .block) (h .at) → n ≡ lowestIn 4 x 15 t (rule14By t (recs q)) → Judges file marks h book by f b
-      need-ii-15 e q g z = judges-at file marks h book by f b t d 15 (omega arith) e (λ s v w c. rw (p, z) (at-15 s v w t q c g))
+      pub need-ii-15 : f ≡ 15 → n ≡ lowestIn 4 x 15 t (rule14By (h .again)) → Judges file marks h book by f b
+      need-ii-15 e z = judges-at file marks h book by f b t d 15 (omega arith) e (λ s v w c. rw (p, z) (at-15 s v w t c))
 
       pub need-ii-rest : f ≤ 28 → (f ≡ 2 → ⊥) → (f ≡ 3 → ⊥) → (f ≡ 4 → ⊥) → (f ≡ 6 → ⊥) → (f ≡ 8 → ⊥) → (f ≡ 9 → ⊥) → (f ≡ 10 → ⊥) → (f ≡ 11 → ⊥) → (f ≡ 12 → ⊥)
           → (f ≡ 13 → ⊥) → (f ≡ 14 → ⊥) → (f ≡ 15 → ⊥) → n ≡ lowestIn 4 x f t 0 → Judges file marks h book by f b

@@ -8,7 +8,7 @@ use native.Mathlib.Omega.{arith}
 use borrow.Author.Tests.{eqb-true, eqb-false, leb-true}
 use lib.Dec.{eqb, leb}
 use lib.ListN.{length, drop}
-use Rattle.house.specs.Text.{Text, number, within, those}
+use Rattle.house.specs.Text.{Text, number, within, any, those, front}
 use Rattle.house.proofs.Small.{both, clash}
 use Rattle.dates.specs.Dates.{isDate}
 use Rattle.lines_fields.specs.declared.Span.{Span}
@@ -18,10 +18,12 @@ use Rattle.lines.specs.Records.{Rec, IP, II, IE, IN, IA, isKind, recs}
 use Rattle.ledger.specs.Ledger.{Event, foundIn}
 use Rattle.rules_definitions.specs.Forms.{text, isHistorical, isSound}
 use Rattle.rules_definitions.specs.Contexts.{Context, nearest, headKind, headOf}
-use Rattle.rules_definitions.specs.Blocks.{isInBlock, eventOf, beforeBlock}
+use Rattle.rules_definitions.specs.Blocks.{isInBlock, eventOf, openAfter, blockIn, beforeBlock}
 use Rattle.rules_definitions.specs.Seen.{Setting, Seen, seenAt}
 use Rattle.rules_definitions.specs.Codes.{dayField, dayIsSound, recordDay}
+use Rattle.rules_definitions.specs.Rules.{sameAntigen, countsSound, setsDiffer, sameLot}
 use Rattle.rules_forms.proofs.SoundLaws.{ip-25, ii-6, in-5}
+use Rattle.rules_lists.specs.Among.{lotIs}
 use Rattle.rules_walk.specs.Firsts.{startAfter}
 use Rattle.rules_walk.specs.Repeats.{isNoted}
 use Rattle.rules_walk.proofs.StartLaws.{start-upto}
@@ -33,6 +35,8 @@ use Rattle.rules.specs.Under.{withRepeated, repeatedBy, seenBy}
 use Rattle.rules_plain.specs.PlainFields.{bornOf}
 use Rattle.rules.specs.Fields.{DayIs, Looks, Blocked, Told}
 use Rattle.rules.specs.Walk.{partOf, lineRec, linesBefore, oneDay, noDay, dayOf, Holds, factsBy, historicalBy, vaccineBy, dayBy, hereWith, HereIs}
+use Rattle.rules.specs.Questions.{antigenAgain, AnswersAre, answered}
+use Rattle.rules.proofs.AnswerLaws.{rule12-lines, rule13-lines, rule14-lines}
 use Rattle.rules.proofs.SeenLaws as seen
 
 -- the day of birth
@@ -215,22 +219,48 @@ module _ (file : Text) (at : ℕ) (st : State) (h : Holds file at st) (less : at
   unfolding hereWith
   first-is = ap (λ (z : Here). z .first) (i .exact)
 
-  module _ (book : Text) (by : By) (ls : Looks by book s) (lv : s .live ≡ foundIn ledger live) where
-    blocked : Blocked file y view
+  its-line : L ≡ lineRec file (y .at)
+  its-line = ap (lineRec file) (sym at-is)
+
+  -- with the answers that were asked for
+  module _ (again differ : Bool) (q : AnswersAre file y again differ) (book : Text) (by : By) (ls : Looks by book s) (lv : s .live ≡ foundIn ledger live) where
+    antigen-told : y .kind ≡ IE → isSound IE (view .line) 4 && any (sameAntigen (view .line)) (view .antigens) ≡ again
     unfolding withRepeated seenAt
-    blocked =
+    antigen-told k =
+        rule12-lines L (part file (y .since) (y .at)) (front (isKind IE) before)
+        (h .since-is .are ∙ ap (λ (n : ℕ). reverse (recs (part file n at))) (sym since-is) ∙ ap (λ (n : ℕ). reverse (recs (part file (y .since) n))) (sym at-is))
+        ∙ ap (λ (l : Rec). antigenAgain (text l 4) (part file (y .since) (y .at))) its-line
+        ∙ sym (q .antigen-is k)
+
+    lot-told : y .kind ≡ II → any (sameLot (view .line)) (view .block) ≡ again
+    unfolding withRepeated seenAt
+    lot-told k =
+        rule14-lines L (part file (y .block) (y .at)) (blockIn L (openAfter before))
+        (seen.block-is file at st h less table ledger live y i ∙ ap (λ (n : ℕ). reverse (those (isKind II) (recs (part file (y .block) n)))) (sym at-is))
+        ∙ ap (λ (l : Rec). any (lotIs (text l 15)) (recs (part file (y .block) (y .at)))) its-line
+        ∙ sym (q .lot-is k)
+
+    differ-told : y .kind ≡ II → view .not-first && (countsSound (view .own) && (countsSound (view .first) && setsDiffer (view .own) (view .first))) ≡ differ
+    unfolding withRepeated seenAt
+    differ-told k =
+        rule13-lines (view .not-first) (y .facts .joined) (part file (y .next) (y .own)) (partOf file (y .first)) (view .own) (view .first)
+        (sym (seen.joined-is file at st h less table ledger live y i)) (i .own-is .joined-own)
+        (h .first-is .are ∙ ap (λ (p : Span). reverse (recs (partOf file p))) (sym first-is))
+        ∙ sym (q .differ-is k)
+
+    blocked : y .kind ≡ II → Blocked (answered y again differ) view
+    unfolding withRepeated seenAt answered
+    blocked k =
         record {
           inb-is = sym (seen.inb-is file at st h less table ledger live y i);
-          joined-is = sym (seen.joined-is file at st h less table ledger live y i);
-          block-is = seen.block-is file at st h less table ledger live y i ∙ ap (λ (n : ℕ). reverse (those (isKind II) (recs (part file (y .block) n)))) (sym at-is);
-          own-is = i .own-is .joined-own;
-          first-is = h .first-is .are ∙ ap (λ (p : Span). reverse (recs (partOf file p))) (sym first-is);
+          again-is = lot-told k;
+          differ-is = differ-told k;
           repeated-is = repeated-told;
           live-is = live-told lv;
         }
 
-    pub told : Told file (marksAt file at) y book by s view
-    unfolding withRepeated seenAt
+    pub told : Told file (marksAt file at) (answered y again differ) book by s view
+    unfolding withRepeated seenAt answered
     told =
         record {
           looks = ls;
@@ -244,6 +274,6 @@ module _ (file : Text) (at : ℕ) (st : State) (h : Holds file at st) (less : at
           day-is = λ w. day-told (ap (within II IA) (sym kind-is) ∙ w);
           historical-is = λ w. historical-told (ap (within II IE) (sym kind-is) ∙ w);
           vaccine-is = λ w. vaccine-told (ap (within II IE) (sym kind-is) ∙ w);
-          antigens-are = h .since-is .are ∙ ap (λ (n : ℕ). reverse (recs (part file n at))) (sym since-is) ∙ ap (λ (n : ℕ). reverse (recs (part file (y .since) n))) (sym at-is);
-          blocked = λ z. blocked;
+          again-is = λ z. antigen-told (sym kind-is ∙ z);
+          blocked = λ z. blocked (sym kind-is ∙ z);
         }

@@ -3,25 +3,25 @@
 use Prim.Native.Nat.{ℕ, _+_, _≤_}
 use mathlib.Core.Path.{_≡_}
 use mathlib.Core.Bool.{Bool, true, cond, _&&_}
-use mathlib.Core.List.{List, reverse}
+use mathlib.Core.List.{List}
 use lib.ListN.{length, drop}
 use lib.Dec.{eqb, ltb}
-use Rattle.house.specs.Text.{Text, those, within}
+use Rattle.house.specs.Text.{Text, any, those, within}
 use Rattle.lines_fields.specs.Lines.{lineOf}
 use Rattle.lines_fields.specs.Marks.{marksAt, judgedIn}
 use Rattle.lines_fields.specs.Inside.{part}
-use Rattle.lines.specs.Records.{IV, IH, IP, II, IE, IN, IA, IF, isKind, recOf, recs}
-use Rattle.rules_definitions.specs.Forms.{text, isHistorical}
+use Rattle.lines.specs.Records.{IV, IH, IP, II, IE, IN, IA, IF, recOf}
+use Rattle.rules_definitions.specs.Forms.{text, isSound, isHistorical}
 use Rattle.rules_definitions.specs.Seen.{Setting, Seen}
 use Rattle.rules_definitions.specs.Codes.{dayIsSound, recordDay, allowsEnded}
-use Rattle.rules_definitions.specs.Rules.{Numbered, rulesAt, brokenBy, brokenAt}
+use Rattle.rules_definitions.specs.Rules.{sameAntigen, countsSound, setsDiffer, sameLot, Numbered, rulesAt, brokenBy, brokenAt}
 use Rattle.rules_definitions.specs.Findings.{fieldsFindings}
 use Rattle.rules_forms.specs.FieldLeaves.{relaxedIf}
 use Rattle.rules_plain.specs.PlainFields.{bornOf}
 use Rattle.rules_fields.specs.declared.Broken.{Broken}
 use Rattle.rules_fields.specs.declared.Day.{Day}
 use Rattle.book.specs.LookUp.{knownBy, inForceBy, endedBy}
-use Rattle.rules_fields.specs.Fields.{anyEnd, ii8Vaccine}
+use Rattle.rules_fields.specs.Fields.{anyEnd}
 use Rattle.rules.specs.declared.By.{By}
 use Rattle.rules.specs.declared.DayRead.{DayRead}
 use Rattle.rules.specs.declared.Here.{Here}
@@ -62,13 +62,11 @@ pub record Looks (by : By) (book : Text) (s : Setting) : Type 0 where
   pub force-is : s .in-force ≡ inForceBy book (by .sections)
   pub ended-is : s .ended ≡ endedBy book (by .sections)
 
--- what an II shows of its block: the earlier II lines of it, its own IE lines where it joins the block, and those of its first II
-pub record Blocked (file : Text) (h : Here) (v : Seen) : Type 0 where
+-- what an II shows of its block: whether an earlier II of it has its lot, and whether its antigens differ from those of the first
+pub record Blocked (h : Here) (v : Seen) : Type 0 where
   pub inb-is : v .in-block ≡ h .facts .inb
-  pub joined-is : v .not-first ≡ h .facts .joined
-  pub block-is : v .block ≡ reverse (those (isKind II) (recs (part file (h .block) (h .at))))
-  pub own-is : h .facts .joined ≡ true → v .own ≡ recs (part file (h .next) (h .own))
-  pub first-is : v .first ≡ reverse (recs (part file (h .first .start) (h .first .end)))
+  pub again-is : any (sameLot (v .line)) (v .block) ≡ h .again
+  pub differ-is : v .not-first && (countsSound (v .own) && (countsSound (v .first) && setsDiffer (v .own) (v .first))) ≡ h .differ
   pub repeated-is : v .repeated ≡ h .facts .repeated
   pub live-is : v .in-block ≡ true → v .live ≡ h .facts .live
 
@@ -85,8 +83,8 @@ pub record Told (file : Text) (marks : List ℕ) (h : Here) (book : Text) (by : 
   pub day-is : within II IA (v .line .kind) ≡ true → DayIs (h .day .sound) (h .day .number) v
   pub historical-is : within II IE (v .line .kind) ≡ true → isHistorical (text (v .head) 5) ≡ h .historical
   pub vaccine-is : within II IE (v .line .kind) ≡ true → text (v .head) 8 ≡ part file (h .vaccine .start) (h .vaccine .end)
-  pub antigens-are : v .antigens ≡ reverse (recs (part file (h .since) (h .at)))
-  pub blocked : v .line .kind ≡ II → Blocked file h v
+  pub again-is : v .line .kind ≡ IE → isSound IE (v .line) 4 && any (sameAntigen (v .line)) (v .antigens) ≡ h .again
+  pub blocked : v .line .kind ≡ II → Blocked h v
 
 -- WHAT IS SAID OF A FIELD
 
@@ -113,10 +111,6 @@ pub record JudgesLine (file : Text) (marks : List ℕ) (h : Here) (book : Text) 
 -- the event of the II with these marks is relaxed
 unfoldable pub relaxedIn : Text → List ℕ → Bool
 relaxedIn file marks = relaxedIf (judgedIn file marks 5) (judgedIn file marks 18) (judgedIn file marks 19) (judgedIn file marks 20)
-
--- what is broken at II 8 with this text
-abbrev pub ii8In : Text → Here → Text → By → Day → Text → Broken
-ii8In file h book by day t = ii8Vaccine t (part file (h .next) (h .own)) (part file (h .first .start) (h .first .end)) book (by .sections) day (h .facts)
 
 -- THE FIELDS OF A LINE ONE AFTER THE OTHER
 

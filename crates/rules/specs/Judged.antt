@@ -49,7 +49,7 @@ pub record WalkIs (s : Setting) (file table area : Text) (old : List ℕ) (r : W
 
 -- a file so short that a small table serves to note its blocks
 abbrev pub shortFile : ℕ
-shortFile = 65536
+shortFile = 16384
 
 -- what a walk over a file finds by an index, if that is the file's own: the file's findings
 pub record AgainIs (s : Setting) (file : Text) (index : List ℕ) (area : Text) (r : ℕ) (after : Text) : Type 0 where

@@ -6,6 +6,8 @@ pub mod Inside
 pub mod Under
 pub mod Walk
 pub mod Advance
+pub mod Questions
+pub mod Room
 pub mod Turned
 pub mod Look
 pub mod Fields

@@ -176,8 +176,9 @@ pub record OwnIs (file : Text) (from r : ℕ) : Type 0 where
 -- those of an II that joins a block end at r
 pub record OwnEnd (file : Text) (joined : Bool) (from r : ℕ) : Type 0 where
   pub joined-own : joined ≡ true → front (isKind IE) (recs (drop from file)) ≡ recs (part file from r)
+  pub own-in : r ≤ length file
 
--- what is known, by the line's marks, its kind, its block and facts, and where its IE lines end
+-- what is known, by the line's marks, its kind, its block and facts, and where its IE lines end; nothing was asked of other lines yet
 unfoldable pub hereWith : Text → List ℕ → Read → State → BlockAt → Facts → ℕ → Here
 hereWith file m r st b facts own =
     record {
@@ -196,6 +197,8 @@ hereWith file m r st b facts own =
       own = own;
       first = st .block .first;
       facts = facts;
+      again = false;
+      differ = false;
     }
 
 -- the line that starts at a position, read

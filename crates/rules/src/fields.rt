@@ -125,9 +125,8 @@ pub(crate) fn judge_ie(
         3 => one(field3_uli(IE, t, span_text(file, here.uli))),
         4 => {
             let vaccine = span_text(file, here.vaccine);
-            let since = part(file, here.since, here.at);
             let day = ii_day(here.day, here.historical, by.today);
-            ie4_antigen(t, vaccine, since, book, by.sections, day)
+            ie4_antigen(t, vaccine, here.again, book, by.sections, day)
         }
         _ => one(rules1_and_2(IE, false, f, t)),
     }

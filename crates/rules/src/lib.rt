@@ -1,10 +1,16 @@
 // Judging a file: every broken rule of every field, once, in order; the findings counted, and those that fit written.
+mod antigens;
 mod blocks;
 mod emit;
 mod fields;
+mod file_walk;
 mod line;
 mod look;
+mod lots;
 mod pass;
+mod questions;
+mod room;
+mod sets;
 mod vaccine;
 mod walk;
 
@@ -24,6 +30,12 @@ pub struct By {
     pub live: usize,
 }
 
+// A short file, for which small buffers serve.
+const SHORT_FILE: usize = 16384;
+
+// Lists of so many lines at most are scanned; longer ones go to a room.
+const FEW_LINES: usize = 16;
+
 // A day that a field gives: whether it is one, and its number.
 struct DayRead {
     sound: bool,
@@ -32,7 +44,9 @@ struct DayRead {
 
 // What is known at a line beside its marks, as `Seen` has it: its kind; whether its II 5 is H; its number, its place; where it and the next
 // line start; its IP's ULI and day of birth; its II's vaccine; the day of its II or IN; where the IE lines just before it start; where its
-// block starts; where its own IE lines end, and those of its block's first II; and what the table of repeats and the ledger say of it.
+// block starts; where its own IE lines end, and those of its block's first II; what the table of repeats and the ledger say of it; and what
+// rules 12 to 14 ask of other lines: of an IE whether its antigen was given before, of an II whether its lot was, and whether its antigens
+// differ from those of its block's first.
 struct Here {
     kind: u8,
     historical: bool,
@@ -49,6 +63,50 @@ struct Here {
     own: usize,
     first: Span,
     facts: Facts,
+    again: bool,
+    differ: bool,
+}
+
+// What a room for lists holds, each if it was made: up to `lots` the places of the file's lots, in order; from there to `firsts` those of a block's
+// first II's antigens with their counts, and whether all of these are sound; from there to `owns` those of an II's antigens. And how many IE
+// lines, and how many II lines of one block, have come one after the other: nothing but the choice between a scan and a list rests on that.
+struct Lists {
+    lots: usize,
+    lots_made: bool,
+    first: Span,
+    firsts: usize,
+    first_made: bool,
+    first_sound: bool,
+    own: Span,
+    owns: usize,
+    own_made: bool,
+    antigens_met: usize,
+    lots_met: usize,
+}
+
+// A list that was made: how many entries it has, and whether they fit.
+struct Made {
+    n: usize,
+    fits: bool,
+}
+
+// An answer, and what the room holds after it was asked for.
+struct Asked {
+    lists: Lists,
+    found: bool,
+}
+
+// The answers for a line, and what the room holds after they were asked for.
+struct Answers {
+    lists: Lists,
+    again: bool,
+    differ: bool,
+}
+
+// What is known of a line with the answers for it, and what the room holds after they were asked for.
+struct Answered {
+    lists: Lists,
+    here: Here,
 }
 
 // Fields 3, 4, 6 and 8 of an II, where they stand; nowhere where there is no such line.

@@ -52,7 +52,7 @@ pub(crate) fn day_in(file: &[u8], marks: &[u32], f: usize) -> DayRead
 }
 
 // Where the IE lines that start at a position end.
-fn ie_end(file: &[u8], from: usize) -> usize
+pub(crate) fn ie_end(file: &[u8], from: usize) -> usize
     requires { ⌜ from ≤ length (now file) ⌝ }
     requires { ⌜ (from < length (now file) → whole (take from (now file)) ≡ true) ⌝ }
     ensures { λ r. ⌜ OwnIs (now (file .entry)) from r ⌝ }
@@ -148,6 +148,8 @@ fn here_of(file: &[u8], marks: &[u32], r: Read, st: State, b: BlockAt, facts: Fa
         own,
         first,
         facts,
+        again: false,
+        differ: false,
     }
 }
 

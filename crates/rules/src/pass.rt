@@ -1,80 +1,24 @@
-// The pass over a file: each line judged in turn, and the index of its blocks.
+// Judging a file: one walk over it, the index of its blocks, and where two blocks name one event a second walk.
 use crate::By;
 use crate::Judged;
+use crate::SHORT_FILE;
 use crate::Walked;
-use crate::line::judge_line;
-use crate::look::look;
-use crate::walk::advance;
-use crate::walk::start;
-use lines_fields::MARKS;
-use rules_fields::Facts;
+use crate::file_walk::walk_in_room;
+use crate::file_walk::walk_in_small_room;
 use rules_walk::Built;
 use rules_walk::MOST_BYTES;
 ghost use mathlib.Core.Path.{_≡_};
-ghost use mathlib.Core.Bool.{not, _&&_};
+ghost use mathlib.Core.List.{[]};
 ghost use Prim.Native.Nat.{_*_, _≤_};
 ghost use lib.ListN.{length, take, replicate};
 ghost use Rattle.rules_walk.specs.Firsts.{fileMost, builtIn};
 ghost use Rattle.rules.specs.Look.{settingBy};
 ghost use Rattle.rules.specs.Judged.{shortFile, judgedOf, judgedArea, WalkIs, AgainIs, Judging, Sorting};
 
-// A short file, and the tables by position: sixteen bytes of a file have an entry.
-const SHORT_FILE: usize = 65536;
-
-const SHORT_TABLE: usize = 4096;
+// The tables by position, of a short file and of any: sixteen bytes of a file have an entry.
+const SHORT_TABLE: usize = 1024;
 
 const LONG_TABLE: usize = 312500;
-
-// Whether a line begins a block.
-fn begins(facts: Facts) -> bool
-    ensures { λ r. ⌜ r ≡ facts .inb && not (facts .joined) ⌝ }
-{
-    if facts.inb {
-        if facts.joined { false } else { true }
-    } else {
-        false
-    }
-}
-
-// Every line of a file, a block being one whose event is named before if a table notes its start: the findings counted, and those that fit
-// written; and where each block's first II line starts is written to the front of an area, as many as fit.
-fn walk(
-    file: &[u8],
-    table: &[u8],
-    ledger: &[u8],
-    book: &[u8],
-    by: By,
-    firsts: &mut [u32],
-    area: &mut [u8],
-) -> Walked
-    requires { ⌜ length (now file) ≤ fileMost ⌝ }
-    ensures { λ r. ⌜ WalkIs (settingBy by (now (book .entry)) (now (ledger .entry)))
-        (now (file .entry)) (now (table .entry)) (now (area .entry)) (now (firsts .entry)) r (now (area .exit)) (now (firsts .exit)) ⌝ }
-{
-    let mut marks = [0u32; MARKS];
-    let mut st = start();
-    let mut at = 0;
-    let mut findings = 0;
-    let mut blocks: usize = 0;
-    while at < file.len() {
-        let here = look(file, &mut marks, at, st, table, ledger, by.live);
-        findings = judge_line(file, &marks, here, book, by, area, findings);
-        st = advance(file, &marks, st, here);
-        let first = at as u32;
-        at = here.next;
-        if begins(here.facts) {
-            house::put(firsts, blocks, first);
-            blocks += 1;
-            continue;
-        }
-    }
-    let not_immunized = st.not_immunized;
-    Walked {
-        blocks,
-        findings,
-        not_immunized,
-    }
-}
 
 // The first n places, or all where there are fewer.
 fn front(places: &[u32], n: usize) -> &[u32]
@@ -105,7 +49,28 @@ fn walk_noted(
 {
     rules_walk::note_repeats(file, index, table);
     let mut none = [0u32; 0];
-    walk(file, table, ledger, book, by, &mut none, area).findings
+    walk_in_room(file, table, ledger, book, by, &mut none, area).findings
+}
+
+// The same of a short file, in a small room for lists.
+fn walk_noted_short(
+    file: &[u8],
+    index: &[u32],
+    table: &mut [u8],
+    ledger: &[u8],
+    book: &[u8],
+    by: By,
+    area: &mut [u8],
+) -> usize
+    requires { ⌜ length (now file) ≤ fileMost ⌝ }
+    requires { ⌜ now table ≡ replicate (length (now table)) 0 ⌝ }
+    requires { ⌜ length (now file) ≤ 16 * length (now table) ⌝ }
+    ensures { λ r. ⌜ AgainIs (settingBy by (now (book .entry)) (now (ledger .entry)))
+        (now (file .entry)) (now (index .entry)) (now (area .entry)) r (now (area .exit)) ⌝ }
+{
+    rules_walk::note_repeats(file, index, table);
+    let mut none = [0u32; 0];
+    walk_in_small_room(file, table, ledger, book, by, &mut none, area).findings
 }
 
 // The same of a short file: the less table there is, the less is to be cleared.
@@ -122,7 +87,7 @@ fn walk_short(
         (now (file .entry)) (now (index .entry)) (now (area .entry)) r (now (area .exit)) ⌝ }
 {
     let mut table = [0u8; SHORT_TABLE];
-    walk_noted(file, index, &mut table, ledger, book, by, area)
+    walk_noted_short(file, index, &mut table, ledger, book, by, area)
 }
 
 // The same of a file as long as can be judged.
@@ -199,6 +164,26 @@ fn judge_sorted(
     }
 }
 
+// The walk over a file as if no event were named twice.
+fn walk_once(
+    file: &[u8],
+    ledger: &[u8],
+    book: &[u8],
+    by: By,
+    firsts: &mut [u32],
+    area: &mut [u8],
+) -> Walked
+    requires { ⌜ length (now file) ≤ fileMost ⌝ }
+    ensures { λ r. ⌜ WalkIs (settingBy by (now (book .entry)) (now (ledger .entry)))
+        (now (file .entry)) [] (now (area .entry)) (now (firsts .entry)) r (now (area .exit)) (now (firsts .exit)) ⌝ }
+{
+    let none = [0u8; 0];
+    if file.len() <= SHORT_FILE {
+        return walk_in_small_room(file, &none, ledger, book, by, firsts, area);
+    }
+    walk_in_room(file, &none, ledger, book, by, firsts, area)
+}
+
 // Judges a file of a length that is judged: its findings are counted, and those that fit written, as if no event were named twice; where two
 // blocks do name one, once more, by the index of its blocks.
 fn judge_file(
@@ -213,8 +198,7 @@ fn judge_file(
     ensures { λ r. ⌜ Judging (now (file .entry)) (now (book .entry)) by (now (ledger .entry))
         (now (room .entry)) (now (area .entry)) r (now (room .exit)) (now (area .exit)) ⌝ }
 {
-    let none = [0u8; 0];
-    let w = walk(file, &none, ledger, book, by, room, area);
+    let w = walk_once(file, ledger, book, by, room, area);
     judge_sorted(file, w, book, by, ledger, room, area)
 }
 

@@ -6,9 +6,7 @@ use crate::fields::one;
 use crate::fields::span_text;
 use lines::II;
 use lines_fields::judged;
-use lines_fields::part;
 use rules_fields::Broken;
-use rules_fields::Day;
 use rules_fields::code_field;
 use rules_fields::ii4_type;
 use rules_fields::ii8_vaccine;
@@ -24,16 +22,7 @@ use rules_plain::ii6_date;
 use rules_plain::ii15_lot;
 ghost use mathlib.Core.Path.{_≡_};
 ghost use Prim.Native.Nat.{_≤_};
-ghost use Rattle.rules.specs.Fields.{Judges, relaxedIn, ii8In};
-
-// II 8: its IE lines and those of its block's first II are looked at where it joins the block.
-fn judge_ii8(file: &[u8], here: Here, book: &[u8], by: By, day: Day, t: &[u8]) -> Broken
-    ensures { λ r. ⌜ r ≡ ii8In (now (file .entry)) here (now (book .entry)) by day (now (t .entry)) ⌝ }
-{
-    let own = part(file, here.next, here.own);
-    let first = span_text(file, here.first);
-    ii8_vaccine(t, own, first, book, by.sections, day, here.facts)
-}
+ghost use Rattle.rules.specs.Fields.{Judges, relaxedIn};
 
 // Field f of an II, an event that is relaxed or not.
 pub(crate) fn judge_ii(
@@ -57,7 +46,10 @@ pub(crate) fn judge_ii(
         3 => one(field3_uli(II, t, span_text(file, here.uli))),
         4 => ii4_type(t, here.facts),
         6 => one(ii6_date(t, by.today, here.born)),
-        8 => judge_ii8(file, here, book, by, day, t),
+        8 => {
+            let facts = here.facts;
+            ii8_vaccine(t, here.differ, book, by.sections, day, facts.repeated)
+        }
         9 => ii9_site(relaxed, t, judged(file, marks, 10)),
         10 => ii10_method(relaxed, judged(file, marks, 9), t),
         11 => {
@@ -70,7 +62,7 @@ pub(crate) fn judge_ii(
             ii13_dosage_type(relaxed, t, dosage, book, by.sections, day)
         }
         14 => one(code_field(II, relaxed, 14, t, t, book, by.sections, day)),
-        15 => one(ii15_lot(relaxed, t, part(file, here.block, here.at))),
+        15 => one(ii15_lot(relaxed, t, here.again)),
         _ => one(rules1_and_2(II, relaxed, f, t)),
     }
 }

@@ -42,14 +42,14 @@ module _ (t : Text) (a b c : ℕ) where
   unfolding ii4Type
   type-is facts x y = rw (x, y)
 
-  pub vaccine-is : (own first book : Text) (q : Sections) (day : Day) (facts : Facts) → a ≡ codeBy 4 false 8 t t book q day
-      → b ≡ rule13By (facts .joined) own first → c ≡ rule15By (facts .repeated) → broken a b c ≡ ii8Vaccine t own first book q day facts
+  pub vaccine-is : (differ repeated : Bool) (book : Text) (q : Sections) (day : Day) → a ≡ codeBy 4 false 8 t t book q day
+      → b ≡ rule13By differ → c ≡ rule15By repeated → broken a b c ≡ ii8Vaccine t differ book q day repeated
   unfolding ii8Vaccine
-  vaccine-is own first book q day facts x y z = rw (x, y, z)
+  vaccine-is differ repeated book q day x y z = rw (x, y, z)
 
-  pub antigen-is : (vaccine since book : Text) (q : Sections) (day : Day) → a ≡ codeBy 5 false 4 t t book q day
-      → b ≡ rule11By 5 t t vaccine book q day → c ≡ rule12By t since → broken a b c ≡ ie4Antigen t vaccine since book q day
+  pub antigen-is : (again : Bool) (vaccine book : Text) (q : Sections) (day : Day) → a ≡ codeBy 5 false 4 t t book q day
+      → b ≡ rule11By 5 t t vaccine book q day → c ≡ rule12By again → broken a b c ≡ ie4Antigen t vaccine again book q day
   unfolding ie4Antigen
-  antigen-is vaccine since book q day x y z = rw (x, y, z)
+  antigen-is again vaccine book q day x y z = rw (x, y, z)
 
 pub ruleset for-parts = (needs, reason-lacks, antigen-lacks, type-is, vaccine-is, site-is, method-is, reason-is, dosage-is, dosage-type-is, antigen-is)

@@ -19,11 +19,11 @@ module _ (t book : Text) (q : Sections) (day : Day) where
   code-field : (k : ℕ) (x : Bool) (f : ℕ) (code : Text) → One (codeBy k x f t code book q day)
   code-field k x f code = one _
 
-  ie4-antigen : (vaccine since : Text) → One (ie4Antigen t vaccine since book q day)
-  ie4-antigen vaccine since = one _
+  ie4-antigen : (vaccine : Text) (again : Bool) → One (ie4Antigen t vaccine again book q day)
+  ie4-antigen vaccine again = one _
 
-  ii8-vaccine : (own first : Text) (facts : Facts) → One (ii8Vaccine t own first book q day facts)
-  ii8-vaccine own first facts = one _
+  ii8-vaccine : (differ repeated : Bool) → One (ii8Vaccine t differ book q day repeated)
+  ii8-vaccine differ repeated = one _
 
   ii11-reason : (x : Bool) (vaccine : Text) → One (ii11Reason x t vaccine book q day)
   ii11-reason x vaccine = one _

@@ -1,7 +1,7 @@
 -- What each need of the functions on an II's and an IE's later rules asks.
 -- Assumes nothing.
 use mathlib.Core.Path.{_≡_}
-use mathlib.Core.Bool.{Bool, true, false, cond, _&&_, and-false}
+use mathlib.Core.Bool.{Bool, true, false, cond, _&&_}
 use mathlib.Core.List.{[], _∷_}
 use Prim.Native.Nat.{ℕ}
 use borrow.Author.Needs.{needs}
@@ -43,42 +43,6 @@ pub ruleset for-site = (needs, low-broken, code-empty, code-given, site-known, s
 
 -- rule9_site, rule9_method, rule10_partner_missing
 pub ruleset for-asked = (needs, asked-no, asked-not, asked-yes, asked-more, asked-none)
-
--- rule12_antigen_again: the second is asked first
-module _ (u v : Bool) (n : ℕ) (y : Bool) (f : y ≡ v) where
-  pub once : y ≡ false → 0 ≡ cond (u && v) n 0
-  once k = rw (← f, k, and-false u)
-
-  module _ (k : y ≡ true) (x : Bool) (e : x ≡ u) where
-    pub again-unsound : x ≡ false → 0 ≡ cond (u && v) n 0
-    again-unsound h = rw (← e, h)
-
-    pub again-sound : x ≡ true → n ≡ cond (u && v) n 0
-    again-sound h = rw (← e, h, ← f, k)
-
-pub ruleset for-again = (needs, once, again-unsound, again-sound)
-
--- rule13_antigens_differ
-module _ (r : ℕ) (a b c d : Bool) where
-  pub set-a : a ≡ false → 0 ≡ cond (a && (b && (c && d))) r 0
-  set-a h = rw h
-
-  module _ (h : a ≡ true) (x : Bool) (e : x ≡ d) where
-    pub set-d : x ≡ false → 0 ≡ cond (a && (b && (c && d))) r 0
-    set-d k = rw (h, ← e, k, and-false c, and-false b)
-
-    module _ (k : x ≡ true) (y : Bool) (f : y ≡ b) where
-      pub set-b : y ≡ false → 0 ≡ cond (a && (b && (c && d))) r 0
-      set-b m = rw (h, ← f, m)
-
-      module _ (m : y ≡ true) (z : Bool) (g : z ≡ c) where
-        pub set-c : z ≡ false → 0 ≡ cond (a && (b && (c && d))) r 0
-        set-c n = rw (h, ← f, m, ← g, n)
-
-        pub set-all : z ≡ true → r ≡ cond (a && (b && (c && d))) r 0
-        set-all n = rw (h, ← f, m, ← g, n, ← e, k)
-
-pub ruleset for-set = (needs, set-a, set-d, set-b, set-c, set-all)
 
 -- rules16_to_18
 module _ (inb live : Bool) (t : Text) where

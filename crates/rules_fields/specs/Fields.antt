@@ -5,15 +5,14 @@ use Prim.Native.Nat.{ℕ}
 use mathlib.Core.Bool.{Bool, false, not, cond, _&&_, _||_}
 use mathlib.Core.List.{[]}
 use lib.Dec.{eqb}
-use Rattle.house.specs.Text.{Text, any, same, isEmpty, pad}
-use Rattle.lines.specs.Records.{II, IE, recs}
+use Rattle.house.specs.Text.{Text, same, isEmpty, pad}
+use Rattle.lines.specs.Records.{II, IE}
 use Rattle.book.specs.declared.Sections.{Sections}
 use Rattle.book.specs.Book.{codeText}
 use Rattle.rules_definitions.specs.Blocks.{adds, changes, deletes}
 use Rattle.rules_definitions.specs.Codes.{bookKind, isSite, isMethod, reasonRead, pairKind}
-use Rattle.rules_definitions.specs.Rules.{siteWrong, methodWrong, countsSound, setsDiffer}
-use Rattle.rules_forms.specs.FieldLeaves.{lowestIn, soundIn, givenIn, lacksIn}
-use Rattle.rules_lists.specs.Among.{antigenIs}
+use Rattle.rules_definitions.specs.Rules.{siteWrong, methodWrong}
+use Rattle.rules_forms.specs.FieldLeaves.{lowestIn, givenIn, lacksIn}
 use Rattle.rules_fields.specs.declared.Broken.{Broken}
 use Rattle.rules_fields.specs.declared.Day.{Day}
 use Rattle.rules_fields.specs.declared.Facts.{Facts}
@@ -84,31 +83,29 @@ rule9AtSite site method = cond (siteWrong site method && (givenIn II 9 site && g
 abbrev pub rule9AtMethod : Text → Text → ℕ
 rule9AtMethod site method = cond (methodWrong site method && (givenIn II 9 site && givenIn II 10 method)) 9 0
 
--- rule 12 at an IE 4 with text t, the IE lines of its II before it being these
-abbrev pub rule12By : Text → Text → ℕ
-rule12By t since = cond (soundIn IE false 4 t && any (antigenIs t) (recs since)) 12 0
+-- rules 12, 13 and 15, each by whether it is broken
+abbrev pub rule12By : Bool → ℕ
+rule12By again = cond again 12 0
 
--- rule 13, of the IE lines of an II that joins a block and of those of the block's first
-abbrev pub rule13By : Bool → Text → Text → ℕ
-rule13By joined own first = cond (joined && (countsSound (recs own) && (countsSound (recs first) && setsDiffer (recs own) (recs first)))) 13 0
+abbrev pub rule13By : Bool → ℕ
+rule13By differ = cond differ 13 0
 
--- rule 15
 abbrev pub rule15By : Bool → ℕ
 rule15By repeated = cond repeated 15 0
 
 -- IE 4
-unfoldable pub ie4Antigen : Text → Text → Text → Text → Sections → Day → Broken
-ie4Antigen t vaccine since book q day =
-    broken (codeBy IE false 4 t t book q day) (rule11By IE t t vaccine book q day) (rule12By t since)
+unfoldable pub ie4Antigen : Text → Text → Bool → Text → Sections → Day → Broken
+ie4Antigen t vaccine again book q day =
+    broken (codeBy IE false 4 t t book q day) (rule11By IE t t vaccine book q day) (rule12By again)
 
 -- II 4
 unfoldable pub ii4Type : Text → Facts → Broken
 ii4Type t facts = broken (lowestIn II false 4 t 0) (rules16to18At (facts .inb) t (facts .live)) 0
 
 -- II 8
-unfoldable pub ii8Vaccine : Text → Text → Text → Text → Sections → Day → Facts → Broken
-ii8Vaccine t own first book q day facts =
-    broken (codeBy II false 8 t t book q day) (rule13By (facts .joined) own first) (rule15By (facts .repeated))
+unfoldable pub ii8Vaccine : Text → Bool → Text → Sections → Day → Bool → Broken
+ii8Vaccine t differ book q day repeated =
+    broken (codeBy II false 8 t t book q day) (rule13By differ) (rule15By repeated)
 
 -- II 9
 unfoldable pub ii9Site : Bool → Text → Text → Broken

@@ -9,6 +9,7 @@ use crate::by_rule::rule9_site;
 use crate::by_rule::rule10_partner_missing;
 use crate::by_rule::rule12_antigen_again;
 use crate::by_rule::rule13_antigens_differ;
+use crate::by_rule::rule15_event_again;
 use crate::by_rule::rules16_to_18;
 use crate::codes::code_field;
 use crate::codes::rule11_pair;
@@ -16,7 +17,7 @@ use book::Sections;
 use lines::IE;
 use lines::II;
 ghost use mathlib.Core.Path.{_≡_};
-ghost use Rattle.rules_fields.specs.Fields.{rule15By, ii4Type, ii8Vaccine, ii9Site, ii10Method, ii11Reason, ii12Dosage, ii13DosageType, ie4Antigen};
+ghost use Rattle.rules_fields.specs.Fields.{ii4Type, ii8Vaccine, ii9Site, ii10Method, ii11Reason, ii12Dosage, ii13DosageType, ie4Antigen};
 
 // II 4: rules 1, 2 and 16 to 18.
 pub fn ii4_type(t: &[u8], facts: Facts) -> Broken
@@ -27,28 +28,21 @@ pub fn ii4_type(t: &[u8], facts: Facts) -> Broken
     Broken { a, b, c: 0 }
 }
 
-// Rule 15 at II 8.
-fn rule15_event_again(repeated: bool) -> u8
-    ensures { λ r. ⌜ r ≡ rule15By repeated ⌝ }
-{
-    if repeated { 15 } else { 0 }
-}
-
-// II 8: rules 1, 2, 4, 5, 13 and 15.
+// II 8: rules 1, 2, 4, 5, 13 and 15. Whether its antigens differ from those of its block's first II, and whether an earlier block names its
+// event, is known.
 pub fn ii8_vaccine(
     t: &[u8],
-    own: &[u8],
-    first: &[u8],
+    differ: bool,
     book: &[u8],
     q: Sections,
     day: Day,
-    facts: Facts,
+    repeated: bool,
 ) -> Broken
-    ensures { λ r. ⌜ r ≡ ii8Vaccine (now (t .entry)) (now (own .entry)) (now (first .entry)) (now (book .entry)) q day facts ⌝ }
+    ensures { λ r. ⌜ r ≡ ii8Vaccine (now (t .entry)) differ (now (book .entry)) q day repeated ⌝ }
 {
     let a = code_field(II, false, 8, t, t, book, q, day);
-    let b = rule13_antigens_differ(facts.joined, own, first);
-    let c = rule15_event_again(facts.repeated);
+    let b = rule13_antigens_differ(differ);
+    let c = rule15_event_again(repeated);
     Broken { a, b, c }
 }
 
@@ -114,19 +108,19 @@ pub fn ii13_dosage_type(
     Broken { a, b, c: 0 }
 }
 
-// IE 4: rules 1, 2, 4, 5, 11 and 12. The lines are the IE lines of its II before it.
+// IE 4: rules 1, 2, 4, 5, 11 and 12. Whether the antigen was given before in its II is known.
 pub fn ie4_antigen(
     t: &[u8],
     vaccine: &[u8],
-    since: &[u8],
+    again: bool,
     book: &[u8],
     q: Sections,
     day: Day,
 ) -> Broken
-    ensures { λ r. ⌜ r ≡ ie4Antigen (now (t .entry)) (now (vaccine .entry)) (now (since .entry)) (now (book .entry)) q day ⌝ }
+    ensures { λ r. ⌜ r ≡ ie4Antigen (now (t .entry)) (now (vaccine .entry)) again (now (book .entry)) q day ⌝ }
 {
     let a = code_field(IE, false, 4, t, t, book, q, day);
     let b = rule11_pair(a, IE, t, t, vaccine, book, q, day);
-    let c = rule12_antigen_again(t, since);
+    let c = rule12_antigen_again(again);
     Broken { a, b, c }
 }

@@ -1,5 +1,4 @@
-// The later rules of an II and of its IE lines: rules 4 of sites and methods, 9, 10, 12, 13 and 16 to 18.
-use lines::IE;
+// The later rules of an II and of its IE lines: rules 4 of sites and methods, 9, 10, 12, 13 and 15 to 18.
 use lines::II;
 ghost use mathlib.Core.Path.{_≡_};
 ghost use mathlib.Core.Bool.{false, _&&_};
@@ -7,7 +6,7 @@ ghost use Rattle.house.specs.Text.{isEmpty};
 ghost use Rattle.lines.specs.Records.{II};
 ghost use Rattle.rules_definitions.specs.Codes.{isSite, isMethod};
 ghost use Rattle.rules_forms.specs.FieldLeaves.{lowestIn, givenIn};
-ghost use Rattle.rules_fields.specs.Fields.{rules4and5Of, rules16to18At, rule9AtSite, rule9AtMethod, rule10By, rule12By, rule13By};
+ghost use Rattle.rules_fields.specs.Fields.{rules4and5Of, rules16to18At, rule9AtSite, rule9AtMethod, rule10By, rule12By, rule13By, rule15By};
 
 // II 9: rules 1, 2 and 4.
 pub(crate) fn ii9_site_alone(relaxed: bool, t: &[u8]) -> u8
@@ -84,32 +83,25 @@ pub(crate) fn rule10_partner_missing(relaxed: bool, t: &[u8], other: usize, u: &
     0
 }
 
-// Rule 12 at IE 4, of an antigen and the IE lines of its II before it. They are asked for first: most antigens are given once.
-pub(crate) fn rule12_antigen_again(t: &[u8], since: &[u8]) -> u8
-    ensures { λ r. ⌜ r ≡ rule12By (now (t .entry)) (now (since .entry)) ⌝ }
+// Rule 12 at IE 4, by whether the antigen was given before.
+pub(crate) fn rule12_antigen_again(again: bool) -> u8
+    ensures { λ r. ⌜ r ≡ rule12By again ⌝ }
 {
-    if rules_lists::rule12_any_antigen(t, since) {
-        if rules_forms::sound_text(IE, false, 4, t) {
-            return 12;
-        }
-    }
-    0
+    if again { 12 } else { 0 }
 }
 
-// Rule 13 at II 8, of the IE lines of an II that is not its block's first, and of those of the first. The sets are asked for first: most are one.
-pub(crate) fn rule13_antigens_differ(joined: bool, own: &[u8], first: &[u8]) -> u8
-    ensures { λ r. ⌜ r ≡ rule13By joined (now (own .entry)) (now (first .entry)) ⌝ }
+// Rule 13 at II 8, by whether the antigens differ from those of the block's first II.
+pub(crate) fn rule13_antigens_differ(differ: bool) -> u8
+    ensures { λ r. ⌜ r ≡ rule13By differ ⌝ }
 {
-    if joined {
-        if rules_lists::rule13_sets_differ(own, first) {
-            if rules_lists::rule13_counts_sound(own) {
-                if rules_lists::rule13_counts_sound(first) {
-                    return 13;
-                }
-            }
-        }
-    }
-    0
+    if differ { 13 } else { 0 }
+}
+
+// Rule 15 at II 8, by whether an earlier block names the event.
+pub(crate) fn rule15_event_again(repeated: bool) -> u8
+    ensures { λ r. ⌜ r ≡ rule15By repeated ⌝ }
+{
+    if repeated { 15 } else { 0 }
 }
 
 // Which of rule16, rule17 and rule18 is broken at II 4, by the submission type and whether the event is live.

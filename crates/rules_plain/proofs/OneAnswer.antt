@@ -4,7 +4,6 @@ use mathlib.Core.Path.{_≡_, sym, _∙_}
 use mathlib.Core.Bool.{Bool, false}
 use Prim.Native.Nat.{ℕ}
 use Rattle.house.specs.Text.{Text}
-use Rattle.lines.specs.Records.{recs}
 use Rattle.rules_forms.specs.TextLeaves.{valueOf}
 use Rattle.rules_forms.specs.FieldLeaves.{lowestIn}
 use Rattle.rules_plain.specs.PlainFields.{rule7By, rule6By, rule8TodayBy, rule8By, rule3By, rule14By}
@@ -33,5 +32,5 @@ in5-date t today born = one _
 iv2-version : (t : Text) → One (lowestIn 1 false 2 t (rule3By t))
 iv2-version t = one _
 
-ii15-lot : (x : Bool) (t block : Text) → One (lowestIn 4 x 15 t (rule14By t (recs block)))
-ii15-lot x t block = one _
+ii15-lot : (x : Bool) (t : Text) (again : Bool) → One (lowestIn 4 x 15 t (rule14By again))
+ii15-lot x t again = one _

@@ -2,7 +2,7 @@
 -- Assumes nothing.
 use mathlib.Core.Path.{_≡_, refl, sym, _∙_, subst}
 use mathlib.Core.Bool.{Bool, true, false, not, cond, _&&_, and-false}
-use mathlib.Core.List.{List, [], _∷_}
+use mathlib.Core.List.{[], _∷_}
 use Prim.Native.Nat.{ℕ, _≤_, _<_}
 use native.Mathlib.Omega.{arith}
 use borrow.Author.Needs.{needs}
@@ -12,17 +12,16 @@ use lib.ListN.{length}
 use Rattle.dates.specs.declared.Date.{Date}
 use Rattle.dates.specs.declared.Dated.{Dated}
 use Rattle.dates.specs.declared.Dated.the-variants.{Day, NoDate}
-use Rattle.house.specs.Text.{Text, any, isEmpty, same, within, run, isDigit, number}
+use Rattle.house.specs.Text.{Text, isEmpty, same, within, run, isDigit, number}
 use Rattle.dates.specs.Dates.{isDate, datedOf}
 use Rattle.house.proofs.Small.{clash, both}
 use Rattle.dates.proofs.DateLaws.{dated-true, dated-false}
-use Rattle.lines.specs.Records.{Rec, IP, II, IN}
+use Rattle.lines.specs.Records.{IP, II, IN}
 use Rattle.rules_definitions.specs.Forms.{countForm, formOf, table, isNumber, isUli, isJudged}
 use Rattle.rules_forms.specs.TextLeaves.{valueOf}
 use Rattle.rules_forms.specs.FieldLeaves.{optionalIn, lowestIn}
 use Rattle.rules_forms.proofs.ClassLaws.{within-yes, within-low, within-high, run-all, run-parts, run-least}
-use Rattle.rules_lists.specs.Among.{lotIs}
-use Rattle.rules_plain.specs.PlainFields.{rule7By, rule6By, rule8TodayBy, rule8DayBy, rule8By, rule3By, rule14By}
+use Rattle.rules_plain.specs.PlainFields.{rule7By, rule6By, rule8TodayBy, rule8DayBy, rule8By, rule3By}
 
 -- the lowest rule: 1 or 2, or a later one where neither is broken
 module _ (k : ℕ) (x : Bool) (f : ℕ) (t : Text) (later r : ℕ) (e : r ≡ lowestIn k x f t 0) where
@@ -262,15 +261,3 @@ module _ (t : Text) (x : Bool) (e : x ≡ same t (55 ∷ 46 ∷ 50 ∷ [])) wher
   version-wrong h = rw (← e, h)
 
 pub ruleset for-rule3-version = (needs, version-right, version-wrong)
-
--- rule14_lot_again
-module _ (t : Text) (ps : List Rec) (x : Bool) (e : x ≡ any (lotIs t) ps) where
-  pub lot-twice : x ≡ true → 14 ≡ rule14By t ps
-  unfolding rule14By
-  lot-twice h = rw (← e, h)
-
-  pub lot-once : x ≡ false → 0 ≡ rule14By t ps
-  unfolding rule14By
-  lot-once h = rw (← e, h)
-
-pub ruleset for-rule14-lot-again = (needs, lot-twice, lot-once)

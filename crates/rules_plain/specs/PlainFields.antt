@@ -1,14 +1,12 @@
 -- The later rules at a field that is sound, by its text.
 -- Assumes nothing.
 use Prim.Native.Nat.{ℕ}
-use mathlib.Core.Bool.{not, cond, _&&_, _||_}
-use mathlib.Core.List.{List}
+use mathlib.Core.Bool.{Bool, not, cond, _&&_, _||_}
 use lib.Dec.{eqb, ltb}
-use Rattle.house.specs.Text.{Text, bytes, any, same, number}
+use Rattle.house.specs.Text.{Text, bytes, same, number}
 use Rattle.lines.specs.Records.{Rec, IP}
 use Rattle.dates.specs.Dates.{isDate}
 use Rattle.rules_definitions.specs.Forms.{text, isUli, isSound}
-use Rattle.rules_lists.specs.Among.{lotIs}
 
 -- rule 7: a number that is not its place
 unfoldable pub rule7By : ℕ → ℕ → ℕ
@@ -38,6 +36,6 @@ rule8By t today born = cond (isDate t && (ltb today (number t) || ltb (number t)
 unfoldable pub rule3By : Text → ℕ
 rule3By t = cond (same t (bytes "7.2")) 0 3
 
--- rule 14: a lot that an II among these lines has
-unfoldable pub rule14By : Text → List Rec → ℕ
-rule14By t ps = cond (any (lotIs t) ps) 14 0
+-- rule 14: an earlier II of the block has the lot
+abbrev pub rule14By : Bool → ℕ
+rule14By again = cond again 14 0

@@ -7,13 +7,12 @@ use lines::IV;
 use rules_forms::is_uli;
 use rules_forms::rules1_and_2;
 use rules_forms::value;
-use rules_lists::rule14_any_lot;
 ghost use mathlib.Core.Bool.{false, _&&_};
 ghost use mathlib.Core.Path.{_≡_};
 ghost use lib.Dec.{ltb, leb};
 ghost use lib.ListN.{length};
 ghost use Rattle.house.specs.Text.{within};
-ghost use Rattle.lines.specs.Records.{IV, IP, II, IN, IA, recs};
+ghost use Rattle.lines.specs.Records.{IV, IP, II, IN, IA};
 ghost use Rattle.rules_forms.specs.TextLeaves.{valueOf};
 ghost use Rattle.rules_forms.specs.FieldLeaves.{lowestIn};
 ghost use Rattle.rules_plain.specs.PlainFields.{rule7By, rule6By, rule8TodayBy, rule8DayBy, rule8By, rule3By, rule14By};
@@ -152,20 +151,20 @@ pub fn iv2_version(t: &[u8]) -> u8
     rule3_version(t)
 }
 
-// Rule 14, of a lot and lines before it.
-fn rule14_lot_again(t: &[u8], block: &[u8]) -> u8
-    ensures { λ r. ⌜ r ≡ rule14By (now (t .entry)) (recs (now (block .entry))) ⌝ }
+// Rule 14, by whether an earlier II of the block has the lot.
+fn rule14_lot_again(again: bool) -> u8
+    ensures { λ r. ⌜ r ≡ rule14By again ⌝ }
 {
-    if rule14_any_lot(t, block) { 14 } else { 0 }
+    if again { 14 } else { 0 }
 }
 
-// II 15: rules 1, 2 and 14. The block is its lines before this one.
-pub fn ii15_lot(relaxed: bool, t: &[u8], block: &[u8]) -> u8
-    ensures { λ r. ⌜ r ≡ lowestIn II relaxed 15 (now (t .entry)) (rule14By (now (t .entry)) (recs (now (block .entry)))) ⌝ }
+// II 15: rules 1, 2 and 14. Whether an earlier II of the block has the lot is known.
+pub fn ii15_lot(relaxed: bool, t: &[u8], again: bool) -> u8
+    ensures { λ r. ⌜ r ≡ lowestIn II relaxed 15 (now (t .entry)) (rule14By again) ⌝ }
 {
     let r = rules1_and_2(II, relaxed, 15, t);
     if r != 0 {
         return r;
     }
-    rule14_lot_again(t, block)
+    rule14_lot_again(again)
 }

@@ -22,5 +22,4 @@ judge-ie-spec =
     (λ c. search for-judge-ie)
     (λ c. search for-judge-ie)
     (λ c. search for-judge-ie)
-    (λ c. search for-judge-ie)
     (λ c. search for-judge-ie))

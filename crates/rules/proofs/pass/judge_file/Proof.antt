@@ -12,5 +12,4 @@ judge-file-spec =
     (λ c. search for-judge-file)
     (λ c. search for-judge-file)
     (λ c. search for-judge-file)
-    (λ c. search for-judge-file)
     (λ c. search for-judge-file))

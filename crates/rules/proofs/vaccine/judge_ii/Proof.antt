@@ -47,5 +47,4 @@ judge-ii-spec =
     (λ c. search for-judge-ii)
     (λ c. search for-judge-ii)
     (λ c. search for-judge-ii)
-    (λ c. search for-judge-ii)
     (λ c. search for-judge-ii))
