@@ -96,6 +96,30 @@ pub fn reason_not(random: &mut Random) -> &'static str {
     one_of(random, &REASONS_NOT)
 }
 
+/// The shortest codes, numbered from 1: all of one byte, then all of two, and on.
+pub fn shortest(number: usize) -> String {
+    let bytes: Vec<u8> = (33..=126).filter(|&byte| byte != b'|').collect();
+    numbered(number, &bytes)
+}
+
+/// The shortest lots, numbered from 1.
+pub fn lot(number: usize) -> String {
+    numbered(
+        number,
+        b"ABCDEFGHIJKLMNOPQRSTUVWXYZabcdefghijklmnopqrstuvwxyz0123456789-",
+    )
+}
+
+fn numbered(mut number: usize, bytes: &[u8]) -> String {
+    let mut text = String::new();
+    while number > 0 {
+        number -= 1;
+        text.push(bytes[number % bytes.len()] as char);
+        number /= bytes.len();
+    }
+    text
+}
+
 fn reasons() -> Vec<String> {
     REASONS.map(|reason| format!("{reason:02}")).collect()
 }

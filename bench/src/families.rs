@@ -3,6 +3,7 @@
 
 mod clinics;
 mod edges;
+mod lists;
 mod rereading;
 
 use crate::codes::{self, Codes};
@@ -13,6 +14,7 @@ use differential::case::Case;
 use differential::check::{ACCEPTED, FINDINGS};
 use differential::random::Random;
 use edges::*;
+use lists::*;
 use rereading::*;
 
 /// The bytes of the findings area.
@@ -26,6 +28,8 @@ pub struct Family {
     pub about: &'static str,
     /// The answer that each of its files gets.
     pub answer: u32,
+    /// Whether its files have long lists, for which `bench/run --limits` is.
+    pub has_lists: bool,
     live_percent: usize,
     codes: fn(&mut Random, usize) -> Codes,
     file: fn(&mut World) -> Vec<u8>,
@@ -60,14 +64,27 @@ pub fn smallest() -> Case {
 }
 
 pub fn all() -> Vec<Family> {
-    let usual = |name, answer, file, about| Family {
+    plain().into_iter().chain(with_lists()).collect()
+}
+
+fn usual(
+    name: &'static str,
+    answer: u32,
+    file: fn(&mut World) -> Vec<u8>,
+    about: &'static str,
+) -> Family {
+    Family {
         name,
         about,
         answer,
+        has_lists: false,
         live_percent: 60,
         codes: Codes::of_clinic,
         file,
-    };
+    }
+}
+
+fn plain() -> Vec<Family> {
     vec![
         usual(
             "flu clinic",
@@ -139,27 +156,6 @@ pub fn all() -> Vec<Family> {
             "two events in turn, as many as the bytes hold, in the shortest lines",
         ),
         usual(
-            "one block of lots",
-            ACCEPTED,
-            one_block,
-            "one event with as many lots as fit",
-        ),
-        Family {
-            codes: |_, bytes| Codes::of_antigens(bytes),
-            ..usual(
-                "antigens of the book",
-                ACCEPTED,
-                antigens_of_the_book,
-                "one block, each II with every antigen of a book that is all antigens",
-            )
-        },
-        usual(
-            "one II of antigens",
-            FINDINGS,
-            one_immunization,
-            "one II with as many antigens as fit, most of them in no book",
-        ),
-        usual(
             "most findings",
             FINDINGS,
             most_findings,
@@ -194,6 +190,145 @@ pub fn all() -> Vec<Family> {
             FINDINGS,
             long_middle,
             "different events and a repeat, the middle one with a field 2 that is half of the file",
+        ),
+    ]
+}
+
+/// A family whose files have long lists.
+fn lists(
+    name: &'static str,
+    answer: u32,
+    file: fn(&mut World) -> Vec<u8>,
+    about: &'static str,
+) -> Family {
+    Family {
+        has_lists: true,
+        ..usual(name, answer, file, about)
+    }
+}
+
+/// A family with a book that is all antigens.
+fn lists_of_book(
+    name: &'static str,
+    answer: u32,
+    file: fn(&mut World) -> Vec<u8>,
+    about: &'static str,
+) -> Family {
+    Family {
+        codes: |_, bytes| Codes::of_antigens(bytes),
+        ..lists(name, answer, file, about)
+    }
+}
+
+fn with_lists() -> Vec<Family> {
+    vec![
+        lists(
+            "one block of lots",
+            ACCEPTED,
+            one_block,
+            "one event with as many lots as fit",
+        ),
+        lists(
+            "one block of shortest lots",
+            FINDINGS,
+            shortest_lots,
+            "the same, in the shortest lines",
+        ),
+        lists(
+            "one block of one lot",
+            FINDINGS,
+            one_lot,
+            "one event with one lot over and over, in the shortest lines",
+        ),
+        lists_of_book(
+            "antigens of the book",
+            ACCEPTED,
+            antigens_of_the_book,
+            "one block, each II with every antigen of a book that is all antigens",
+        ),
+        lists(
+            "one II of antigens",
+            FINDINGS,
+            one_immunization,
+            "one II with as many antigens as fit, most of them in no book",
+        ),
+        lists(
+            "one II of shortest antigens",
+            FINDINGS,
+            shortest_antigens,
+            "the same, in the shortest lines and in no order",
+        ),
+        lists(
+            "one II of longest antigens",
+            FINDINGS,
+            longest_antigens,
+            "the same, with antigens of 20 bytes that differ in the last six only",
+        ),
+        lists(
+            "one II of one antigen",
+            FINDINGS,
+            one_antigen,
+            "one II with one antigen over and over, in the shortest lines",
+        ),
+        lists_of_book(
+            "one II of the book",
+            FINDINGS,
+            antigens_of_the_book_again,
+            "one II with every antigen of a book that is all antigens, over and over",
+        ),
+        lists(
+            "first II of many, then of one",
+            FINDINGS,
+            many_then_one,
+            "one block, the first II half of the file, the others with one antigen of it each",
+        ),
+        lists(
+            "first II of one, then of many",
+            FINDINGS,
+            one_then_many,
+            "one block, the second II nearly all of the file, the first with one antigen of it",
+        ),
+        lists(
+            "first II of one, then of hundreds",
+            FINDINGS,
+            one_then_hundreds,
+            "one block, the first II with one antigen, the others with the same 300 each",
+        ),
+        lists_of_book(
+            "one set in any order",
+            ACCEPTED,
+            set_in_any_order,
+            "one block, each II with the same antigens of the book, up to 300, in another order",
+        ),
+        lists(
+            "shortest set in any order",
+            FINDINGS,
+            shortest_set_in_any_order,
+            "one block, each II with the same 300 antigens in another order, in the shortest lines",
+        ),
+        lists(
+            "two IIs of one set",
+            FINDINGS,
+            two_of_one_set,
+            "two IIs that are half of the file each, with the same antigens in another order",
+        ),
+        lists(
+            "two IIs of counts",
+            FINDINGS,
+            two_of_counts,
+            "the same, each antigen with the counts 1 to 99",
+        ),
+        lists(
+            "one antigen and another",
+            FINDINGS,
+            one_antigen_and_another,
+            "one block, the first II half of the file: one antigen over and over, then another; the others with these two",
+        ),
+        lists(
+            "two antigens, then hundreds",
+            FINDINGS,
+            two_antigens_then_hundreds,
+            "one block, the first II with two antigens, the others with one of them 300 times and the other",
         ),
     ]
 }

@@ -1,12 +1,14 @@
 //! Measures the product's check against the independent implementation of
 //! tests/differential, both in this process, and prints the tables in Markdown.
 //!
-//! `bench [--quick] [--only WORD] [--limit SECONDS] [--date DATE] [--product NAME]`:
-//! quick is two small sizes and one run; WORD leaves only the families whose names
-//! have it; a size that is expected to take longer than the limit is left out; the
-//! page says the date, and NAME for the product's version.
+//! `bench [--quick | --limits] [--only WORD] [--limit SECONDS] [--date DATE] [--product NAME]`:
+//! quick is two small sizes and one run; limits holds the families with long lists to
+//! their limits; WORD leaves only the families whose names have it; a size that is
+//! expected to take longer than the limit is left out; the page says the date, and
+//! NAME for the product's version.
 
 mod clock;
+mod limits;
 mod measure;
 mod product;
 mod table;
@@ -19,7 +21,7 @@ use std::time::Duration;
 use table::Row;
 
 const USAGE: &str =
-    "bench [--quick] [--only WORD] [--limit SECONDS] [--date DATE] [--product NAME]";
+    "bench [--quick | --limits] [--only WORD] [--limit SECONDS] [--date DATE] [--product NAME]";
 
 /// The product's check needs about 3.5 MB of stack.
 const STACK: usize = 16 << 20;
@@ -30,10 +32,17 @@ const SMALL_RUNS: usize = 101;
 struct Plan {
     sizes: &'static [usize],
     runs: usize,
+    is_of_limits: bool,
     only: String,
     limit: Duration,
     date: String,
     product: String,
+}
+
+/// What is printed, and what is over its limit.
+struct Report {
+    text: String,
+    over: Vec<String>,
 }
 
 fn main() -> ExitCode {
@@ -45,9 +54,13 @@ fn main() -> ExitCode {
         .stack_size(STACK)
         .spawn(move || report(&plan));
     match thread.map(|thread| thread.join()) {
-        Ok(Ok(Ok(text))) => {
-            print!("{text}");
-            ExitCode::SUCCESS
+        Ok(Ok(Ok(report))) => {
+            print!("{}", report.text);
+            report.over.iter().for_each(|over| eprintln!("{over}"));
+            match report.over.is_empty() {
+                true => ExitCode::SUCCESS,
+                false => ExitCode::FAILURE,
+            }
         }
         Ok(Ok(Err(difference))) => {
             eprintln!("{difference}");
@@ -61,6 +74,7 @@ fn plan() -> Option<Plan> {
     let mut plan = Plan {
         sizes: &[16, 8, 4, 2, 1],
         runs: 7,
+        is_of_limits: false,
         only: String::new(),
         limit: Duration::from_secs(900),
         date: String::new(),
@@ -70,6 +84,11 @@ fn plan() -> Option<Plan> {
     while let Some(word) = words.next() {
         match word.as_str() {
             "--quick" => (plan.sizes, plan.runs) = (&[64, 16], 1),
+            "--limits" => {
+                plan.is_of_limits = true;
+                (plan.sizes, plan.runs) = (&[16, 4, 1], 5);
+                plan.limit = limits::EXPECTED_MOST;
+            }
             "--only" => plan.only = words.next()?,
             "--limit" => plan.limit = Duration::from_secs(words.next()?.parse().ok()?),
             "--date" => plan.date = words.next()?,
@@ -81,35 +100,50 @@ fn plan() -> Option<Plan> {
 }
 
 /// The tables; or the family, the size and the difference of the two checks.
-fn report(plan: &Plan) -> Result<String, String> {
+fn report(plan: &Plan) -> Result<Report, String> {
     let families = families::all();
     let rows: Result<Vec<Row>, String> = families
         .into_iter()
         .filter(|family| family.name.contains(&plan.only))
+        .filter(|family| family.has_lists || !plan.is_of_limits)
         .map(|family| row(plan, family))
         .collect();
+    let rows = rows?;
+    if plan.is_of_limits {
+        return Ok(Report {
+            text: limits::table(&rows),
+            over: rows.iter().flat_map(limits::over).collect(),
+        });
+    }
     let smallest = families::smallest();
     let call = measure::measure_call(&smallest, SMALL_RUNS)?;
-    Ok(page(plan, &rows?, smallest.book.len(), &call))
+    Ok(Report {
+        text: page(plan, &rows, smallest.book.len(), &call),
+        over: Vec::new(),
+    })
 }
 
 fn row(plan: &Plan, family: Family) -> Result<Row, String> {
-    let mut sizes = Vec::new();
-    let mut expected = Some(Duration::ZERO);
+    let mut sizes: Vec<(Size, Option<Times>)> = Vec::new();
     for size in plan.sizes.iter().map(|&parts| Size { parts }) {
-        let times = match expected {
-            Some(expected) if expected <= plan.limit => Some(times(plan, &family, size)?),
-            _ => None,
+        let is_short = match sizes.last() {
+            None => true,
+            Some((_, None)) => false,
+            Some((before, Some(times))) => expected(times, *before, size) <= plan.limit,
         };
-        expected = times.as_ref().map(at_twice_the_size);
+        let times = match is_short {
+            true => Some(times(plan, &family, size)?),
+            false => None,
+        };
         sizes.push((size, times));
     }
     Ok(Row { family, sizes })
 }
 
 /// At most this, if the time grows with the square of the size.
-fn at_twice_the_size(times: &Times) -> Duration {
-    4 * times.product.max(times.independent)
+fn expected(times: &Times, before: Size, size: Size) -> Duration {
+    let growth = (before.parts / size.parts) as u32;
+    growth * growth * times.product.max(times.independent)
 }
 
 fn times(plan: &Plan, family: &Family, size: Size) -> Result<Times, String> {

@@ -6,6 +6,9 @@ pub const PLACES_MOST: usize = 99_999;
 const START: &str = "IV|7.2|\nIH|10|000001|\n";
 const FOOTER: &str = "IF|8|0|\n";
 
+/// The bytes of some short lines.
+const SOME_LINES: usize = 200;
+
 /// The fields of an II that differ from file to file.
 #[derive(Clone)]
 pub struct Dose {
@@ -63,6 +66,11 @@ impl Submission {
             self.place = self.fitted.1;
         }
         fits
+    }
+
+    /// Whether as much again, and some lines more, will fit.
+    pub fn is_below_half(&self) -> bool {
+        2 * (self.text.len() + SOME_LINES) < self.longest
     }
 
     pub fn finish(mut self) -> Vec<u8> {
@@ -148,6 +156,18 @@ impl Submission {
         self.next();
         self.text += &format!("II|{number}|{uli}|A||{date}|{seventh}|{vaccine}|||||||||||||||\n");
         self.empty_antigen();
+    }
+
+    /// The shortest II that has a lot: relaxed, all that may be empty is.
+    pub fn shortest_lot(&mut self, uli: &str, date: u32, vaccine: &str, lot: &str) {
+        self.next();
+        self.text += &format!("II||{uli}|A|H|{date}||{vaccine}|||||||{lot}||||||||\n");
+    }
+
+    /// The shortest IE that has an antigen and a count.
+    pub fn shortest_antigen(&mut self, code: &str, count: usize) {
+        self.next();
+        self.text += &format!("IE|||{code}|{count}|\n");
     }
 
     pub fn empty_antigen(&mut self) {

@@ -14,7 +14,7 @@ pub struct Row {
 }
 
 /// What stands for a time that was not taken.
-const NONE: &str = "-";
+pub const NONE: &str = "-";
 
 /// Each family's files, and what both checks say of the largest.
 pub fn families(rows: &[Row]) -> String {
@@ -105,12 +105,12 @@ fn growth_cells(
     [first, last, growth].map(|number| number.map_or(NONE.to_string(), short))
 }
 
-fn ms(time: Duration) -> String {
+pub fn ms(time: Duration) -> String {
     short(time.as_secs_f64() * 1000.0)
 }
 
 /// Three digits that count, at least.
-fn short(number: f64) -> String {
+pub fn short(number: f64) -> String {
     match number {
         _ if number < 1.0 => format!("{number:.3}"),
         _ if number < 10.0 => format!("{number:.2}"),
@@ -120,7 +120,7 @@ fn short(number: f64) -> String {
 }
 
 /// A comma before every third digit from the end.
-fn grouped(digits: &str) -> String {
+pub fn grouped(digits: &str) -> String {
     let groups = digits.as_bytes().rchunks(3).rev();
     let groups: Vec<_> = groups.map(String::from_utf8_lossy).collect();
     groups.join(",")
@@ -144,7 +144,7 @@ fn said(answer: &Answer) -> String {
     format!("accepted: {}", parts.join(", "))
 }
 
-fn table(head: &[&str], lines: impl Iterator<Item = Vec<String>>) -> String {
+pub fn table(head: &[&str], lines: impl Iterator<Item = Vec<String>>) -> String {
     let mut text = format!("| {} |\n|{}\n", head.join(" | "), "---|".repeat(head.len()));
     for line in lines {
         text += &format!("| {} |\n", line.join(" | "));

@@ -1,9 +1,7 @@
-//! Files at the edges: as many blocks, repeats, lots, antigens or findings as the
-//! bytes hold.
+//! Files at the edges: as many blocks, repeats or findings as the bytes hold.
 
-use super::clinics::immunization;
 use super::BIRTH;
-use crate::submission::{Dose, Submission};
+use crate::submission::Submission;
 use crate::world::{World, TODAY};
 use differential::check::date;
 
@@ -59,48 +57,6 @@ pub fn shortest_repeats(world: &mut World) -> Vec<u8> {
             break;
         }
         file.shortest_block(&uli, TODAY, vaccine);
-    }
-    file.finish()
-}
-
-/// One block, with as many lots as fit.
-fn lots_of(world: &mut World, add: fn(&mut Submission, &World, usize, &Dose)) -> Vec<u8> {
-    let uli = world.uli();
-    let (vaccine, mut dose) = world.new_dose(&uli);
-    let mut file = Submission::new(world.size.file());
-    file.patient(&uli, "SMITH", BIRTH);
-    for lot in 1.. {
-        if !file.fits() {
-            break;
-        }
-        dose.lot = format!("L{lot}");
-        add(&mut file, world, vaccine, &dose);
-    }
-    file.finish()
-}
-
-pub fn one_block(world: &mut World) -> Vec<u8> {
-    lots_of(world, |file, world, vaccine, dose| {
-        file.immunization(dose);
-        file.antigen(&dose.uli, &world.vaccine(vaccine).antigens[0], "1");
-    })
-}
-
-pub fn antigens_of_the_book(world: &mut World) -> Vec<u8> {
-    lots_of(world, immunization)
-}
-
-pub fn one_immunization(world: &mut World) -> Vec<u8> {
-    let uli = world.uli();
-    let (_, dose) = world.new_dose(&uli);
-    let mut file = Submission::of_any_places(world.size.file());
-    file.patient(&uli, "SMITH", BIRTH);
-    file.immunization(&dose);
-    for antigen in 1.. {
-        file.antigen(&uli, &format!("{antigen:X}"), "1");
-        if !file.fits() {
-            break;
-        }
     }
     file.finish()
 }
