@@ -1,7 +1,8 @@
 //! What the cases of a run reach: answers, causes, (kind, field, rule) triples,
-//! and the ends of codes and pairs.
+//! the ends of codes and pairs, and rules judged over long lists.
 
 mod ends;
+mod lists;
 
 use crate::case::{Case, Outcome};
 use crate::check::shape::Kind;
@@ -17,6 +18,7 @@ pub struct Coverage {
     causes: [usize; 8],
     triples: BTreeMap<Triple, usize>,
     ends: BTreeMap<Row, usize>,
+    lists: BTreeMap<lists::Row, usize>,
 }
 
 /// The rules that document 01 allows at each field.
@@ -70,11 +72,14 @@ impl Coverage {
         self.answers[outcome.answer.answer as usize] += 1;
         self.causes[outcome.answer.cause as usize] += 1;
         let answer = outcome.answer.answer;
-        if answer == check::FINDINGS {
-            self.add_findings(case);
+        if !matches!(answer, check::ACCEPTED | check::FINDINGS | check::FULL) {
+            return;
         }
-        if matches!(answer, check::ACCEPTED | check::FINDINGS | check::FULL) {
-            self.add_ends(case, answer == check::ACCEPTED);
+        let findings = check::all_findings(case.today, &case.file, &case.book, &case.ledger);
+        self.add_findings(case, &findings);
+        self.add_ends(case, answer == check::ACCEPTED);
+        for row in lists::rows(case, &findings) {
+            *self.lists.entry(row).or_default() += 1;
         }
     }
 
@@ -86,13 +91,13 @@ impl Coverage {
     }
 
     /// Each triple counts once a case.
-    fn add_findings(&mut self, case: &Case) {
-        for triple in triples(case) {
+    fn add_findings(&mut self, case: &Case, findings: &[Finding]) {
+        for triple in triples(case, findings) {
             *self.triples.entry(triple).or_default() += 1;
         }
     }
 
-    /// The answers, causes, triples and ends that no case reached.
+    /// The answers, causes, triples, ends and lists that no case reached.
     pub fn missing(&self) -> Vec<String> {
         let answers = (0..8).filter(|&answer| self.answers[answer] == 0);
         let causes = (1..8).filter(|&cause| self.causes[cause] == 0);
@@ -103,6 +108,8 @@ impl Coverage {
         let ends = ends::possible().into_iter();
         let ends = ends.filter(|&row| self.of_ends(row) == 0);
         missing.extend(ends.map(|row| row.to_string()));
+        let lists = lists::possible().filter(|&row| self.of_lists(row) == 0);
+        missing.extend(lists.map(|row| row.to_string()));
         missing
     }
 
@@ -124,6 +131,7 @@ impl Coverage {
             println!("impossible by document 01: {}", named(*triple));
         }
         self.print_ends();
+        self.print_lists();
     }
 
     fn print_ends(&self) {
@@ -143,6 +151,19 @@ impl Coverage {
     fn of_ends(&self, row: Row) -> usize {
         self.ends.get(&row).copied().unwrap_or(0)
     }
+
+    fn print_lists(&self) {
+        for row in lists::possible() {
+            println!("{row} {}", self.of_lists(row));
+        }
+        let reached = lists::possible().filter(|&row| self.of_lists(row) > 0);
+        let (reached, rows) = (reached.count(), lists::possible().count());
+        println!("{reached} of {rows} long lists reached");
+    }
+
+    fn of_lists(&self, row: lists::Row) -> usize {
+        self.lists.get(&row).copied().unwrap_or(0)
+    }
 }
 
 fn named((kind, field, rule): Triple) -> String {
@@ -150,9 +171,8 @@ fn named((kind, field, rule): Triple) -> String {
 }
 
 /// The triples of a case, each once.
-pub fn triples(case: &Case) -> Vec<Triple> {
+fn triples(case: &Case, findings: &[Finding]) -> Vec<Triple> {
     let kinds = kinds(&case.file);
-    let findings = check::all_findings(case.today, &case.file, &case.book, &case.ledger);
     let triple = |finding: &Finding| {
         (
             kinds[finding.line as usize - 1],

@@ -2,6 +2,7 @@
 
 pub mod calendar;
 mod damage;
+mod lists;
 mod records;
 pub mod shapes;
 pub mod submission;
@@ -11,6 +12,7 @@ use crate::case::Case;
 use crate::check;
 use crate::random::Random;
 use damage::Draft;
+use lists::Length;
 pub use records::{long_book, long_ledger, BOOK_MOST, SLOT, SLOTS_MOST};
 use submission::{get, is, Line};
 use world::{Size, Text, World};
@@ -50,7 +52,7 @@ fn theme(random: &mut Random) -> Theme {
 }
 
 /// The case of this number. A few are at the limits of length, one in sixty is
-/// long, the others are small.
+/// long, one in forty has long lists, the others are small.
 pub fn case(seed: u64, number: u64) -> Case {
     let mut random = Random::of(seed, number);
     if let Some(case) = at_a_limit(&mut random, number % 5000) {
@@ -61,9 +63,36 @@ pub fn case(seed: u64, number: u64) -> Case {
         1 => Size::MANY_BLOCKS,
         2 => Size::MANY_LOTS,
         3 => Size::MANY_ANTIGENS,
+        4..=6 => return case_of_lists(&mut random, Length::Few),
+        7 => return case_of_lists(&mut random, Length::Hundreds),
+        8 | 9 => return case_of_lists(&mut random, Length::Sixteenth),
         _ => Size::SMALL,
     };
     case_of(&mut random, size)
+}
+
+/// A case with long lists of antigens and lots, mostly with room for all of its
+/// findings.
+fn case_of_lists(random: &mut Random, length: Length) -> Case {
+    let world = World::new(random, Size::LISTS);
+    let mut lines = Vec::new();
+    while !lines.iter().any(|line| is(line, "II")) {
+        lines = submission::submission(random, &world, Size::LISTS);
+    }
+    let is_plain = random.percent(20);
+    lists::lengthen(random, length, is_plain, &mut lines);
+    let mut draft = Draft { world, lines };
+    let rules = if is_plain { 0 } else { random.below(3) };
+    for _ in 0..rules {
+        damage::damage_by_rule(random, &mut draft);
+    }
+    let mut case = written(random, Theme::Clean, &draft);
+    case.room = if random.percent(80) {
+        exact_room(&case)
+    } else {
+        room(random, &case)
+    };
+    case
 }
 
 /// A case that a slow checker can bear.
@@ -185,12 +214,14 @@ fn room(random: &mut Random, case: &Case) -> usize {
         0..=5 => 600,
         6 => random.below(14),
         7 => random.below(60),
-        _ => {
-            let list = check::all_findings(case.today, &case.file, &case.book, &case.ledger);
-            let exact = list.len() * check::FINDING_WIDTH;
-            (exact + random.below(14)).saturating_sub(7)
-        }
+        _ => (exact_room(case) + random.below(14)).saturating_sub(7),
     }
+}
+
+/// The bytes of all findings.
+fn exact_room(case: &Case) -> usize {
+    let list = check::all_findings(case.today, &case.file, &case.book, &case.ledger);
+    list.len() * check::FINDING_WIDTH
 }
 
 /// Cases at the limits of length: of the file, of the book and of the ledger.

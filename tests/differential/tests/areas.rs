@@ -122,7 +122,7 @@ fn a_line_gives_back_its_verdict() {
 }
 
 #[test]
-fn cases_reach_every_answer_cause_triple_and_end() {
+fn cases_reach_every_answer_cause_triple_end_and_long_list() {
     assert_eq!(possible().count(), 110);
     let mut run = Run::new(20);
     run.by_itself(20_000);

@@ -149,6 +149,37 @@ fn antigens_with_counts_are_sets() {
     assert_eq!(found(&patient(&unsound)), [(5, 5, 2)]);
 }
 
+/// What rules 12 to 14 find.
+fn found_in_lists(lines: &[String]) -> Vec<(u32, u8, u8)> {
+    let mut found = found(&patient(lines));
+    found.retain(|(_, _, rule)| (12..=14).contains(rule));
+    found
+}
+
+#[test]
+fn long_lists_are_judged_as_short_ones() {
+    let group = |place: usize, antigens: &[(usize, &str)]| {
+        let ies = antigens
+            .iter()
+            .enumerate()
+            .map(|(after, (number, count))| ie(place + 1 + after, &format!("A{number}"), count));
+        ii(place, &[]) + &ies.collect::<String>()
+    };
+    let first: Vec<(usize, &str)> = (0..40).map(|number| (number, "1")).collect();
+    let mut reverse: Vec<(usize, &str)> = (0..40).rev().map(|number| (number, "01")).collect();
+    let two = |other: &[(usize, &str)]| found_in_lists(&[group(2, &first), group(43, other)]);
+    assert_eq!(two(&reverse), []);
+    assert_eq!(two(&reverse[1..]), [(45, 8, 13)]);
+    reverse.push((20, "1"));
+    assert_eq!(two(&reverse), [(86, 4, 12)]);
+    reverse.push((20, "2"));
+    assert_eq!(two(&reverse), [(45, 8, 13), (86, 4, 12), (87, 4, 12)]);
+    let lots: Vec<String> = (1..=40)
+        .map(|lot| ii(2 * lot, &[("L80", "L2")]) + &ie(2 * lot + 1, "TESTA", "1"))
+        .collect();
+    assert_eq!(found_in_lists(&lots), [(82, 15, 14)]);
+}
+
 #[test]
 fn a_date_that_rule_8_refuses_is_sound() {
     let before_start = immunizations(&[&[("20220901", "19991231")]]);

@@ -140,6 +140,16 @@ impl Size {
         codes: 90,
         live: 3,
     };
+    /// The draft that long lists are put into.
+    pub const LISTS: Size = Size {
+        patients: 2,
+        blocks: 2,
+        lots: 2,
+        antigens: 40,
+        not_immunized: 1,
+        codes: 40,
+        live: 3,
+    };
 }
 
 #[derive(Clone, Debug)]
