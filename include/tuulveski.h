@@ -5,7 +5,11 @@
  *
  * Every input gets an answer: nothing that the caller says of file, book, ledger or date is trusted.
  *
- * STACK. A call takes up to 3.5 MB of the caller's stack. Give a thread that calls it at least 4 MiB.
+ * STACK. A call takes up to 3.5 MB of the caller's stack, on a file of at most 16,384 bytes 1.1 MB. Give a thread that calls it at
+ * least 4 MiB.
+ *
+ * TIME. On every input the time is near to proportional to the bytes lent, however the file is damaged. A file of 5,000,000 bytes
+ * takes some 35 ms if it is an ordinary one, and half a second at most if it is made to take long (docs/PERFORMANCE.md).
  *
  * EXAMPLE
  *
