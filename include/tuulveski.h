@@ -9,7 +9,8 @@
  * least 4 MiB.
  *
  * TIME. On every input the time is near to proportional to the bytes lent, however the file is damaged. A file of 5,000,000 bytes
- * takes some 35 ms if it is an ordinary one, and half a second at most if it is made to take long (docs/PERFORMANCE.md).
+ * takes some 35 ms if it is an ordinary one. One that is made to take long took half a second (docs/PERFORMANCE.md), and 0.9 s where
+ * two of its blocks name one event as well, for then it is gone through twice.
  *
  * EXAMPLE
  *
