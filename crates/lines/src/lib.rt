@@ -15,7 +15,9 @@ pub use kinds::IV;
 pub use kinds::kind_of;
 pub use lines_fields::field;
 pub use lines_fields::field_position;
+pub use lines_fields::find_field;
 pub use lines_fields::has_field;
+pub use lines_fields::lines_on;
 pub use lines_places::MOST_PLACES;
 
 // A file's shape: right, or the first line with a fault and its lowest cause.

@@ -121,7 +121,7 @@ field-first k t = rw (fields-after, getD-drop, add-zero)
 
 -- The fields one after the other: from where the field after f fields starts, the first pipe ends it, and the next one starts after that pipe
 module _ (t : Text) (at f : ℕ) (e : fieldsOf (drop at t) ≡ drop f (fieldsOf t)) (h : f < length (fieldsOf t)) where
-  next-pipe : pipeLen (drop at t) < length (drop at t)
+  pub next-pipe : pipeLen (drop at t) < length (drop at t)
   next-pipe = go (ltb (pipeLen (drop at t)) (length (drop at t))) refl
     where
       go : (v : Bool) → ltb (pipeLen (drop at t)) (length (drop at t)) ≡ v → pipeLen (drop at t) < length (drop at t)
@@ -137,7 +137,7 @@ module _ (t : Text) (at f : ℕ) (e : fieldsOf (drop at t) ≡ drop f (fieldsOf 
   unfolding fieldOf
   next-here = ap (λ (fs : List Text). getD fs 0 []) (fields-first (drop at t) next-pipe)
 
-  next-length : length (fieldOf (drop at t) 1) ≡ pipeLen (drop at t)
+  pub next-length : length (fieldOf (drop at t) 1) ≡ pipeLen (drop at t)
   next-length = ap length next-here ∙ length-take-le (pipeLen (drop at t)) (drop at t) (omega (arith, next-pipe))
 
   pub next-inside : at + length (fieldOf (drop at t) 1) < length t

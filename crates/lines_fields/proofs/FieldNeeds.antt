@@ -15,7 +15,7 @@ use lib.Seq.{drop-drop, length-take-le}
 use Rattle.house.specs.Text.{Text}
 use Rattle.house.proofs.Small.{clash}
 use Rattle.house.proofs.Suffix.{drop-here, drop-past}
-use Rattle.lines_fields.specs.Lines.{pipe, textLen, fieldsOf, fieldOf, textAt, fieldText, fieldThere, linesLen, fieldsLen, fieldPosition}
+use Rattle.lines_fields.specs.Lines.{pipe, textLen, fieldsOf, fieldOf, textAt, isThere, fieldText, fieldThere, linesLen, fieldsLen, fieldPosition}
 use Rattle.lines_fields.specs.Inside.{pipeLen}
 use Rattle.lines_fields.proofs.LineLaws.{text-le, text-after}
 use Rattle.lines_fields.proofs.FieldLaws.{lengthen-length, fields-few, fields-split, fields-pass, fields-first, fields-none, fields-le, field-first, start-zero}
@@ -170,11 +170,11 @@ unfolding fieldText
 field-text s n f t r x e = rw (← x) e
 
 pub there-zero : (s : Text) (n f : ℕ) → f ≡ 0 → false ≡ fieldThere s n f
-unfolding fieldThere
+unfolding fieldThere isThere
 there-zero s n f e = rw e
 
 pub there-is : (s : Text) (n : ℕ) (t : Text) (m f : ℕ) → t ≡ textAt s n → m ≡ length (fieldsOf t) → (f ≡ 0 → ⊥) → ltb (f - 1) m ≡ fieldThere s n f
-unfolding fieldThere
+unfolding fieldThere isThere
 there-is s n t m zero x e z = absurd (z refl)
 there-is s n t m (suc f) x e z = rw (e, x, sub-one)
 
@@ -188,7 +188,7 @@ module _ (s : Text) (n f : ℕ) (y : Bool) (e : y ≡ fieldThere s n f) where
 
   module _ (h : y ≡ true) where
     pub line-one : 1 ≤ n
-    unfolding fieldThere textAt fieldsOf
+    unfolding fieldThere isThere textAt fieldsOf
     line-one = go n f (sym e ∙ h)
       where
         go : (m g : ℕ) → fieldThere s m g ≡ true → 1 ≤ m
@@ -197,7 +197,7 @@ module _ (s : Text) (n f : ℕ) (y : Bool) (e : y ≡ fieldThere s n f) where
         go (suc m) g k = omega arith
 
     pub field-one : 1 ≤ f
-    unfolding fieldThere
+    unfolding fieldThere isThere
     field-one = go f (sym e ∙ h)
       where
         go : (g : ℕ) → fieldThere s n g ≡ true → 1 ≤ g

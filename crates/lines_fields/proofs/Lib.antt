@@ -8,6 +8,7 @@ pub mod MarkLaws
 mod LineNeeds
 mod FieldNeeds
 mod AtNeeds
+mod PlaceNeeds
 mod MarkNeeds
 mod SpanNeeds
 -- No second answer

@@ -4,7 +4,7 @@ use mathlib.Core.Path.{_≡_, refl, sym, ap, _∙_}
 use mathlib.Core.Bool.{Bool, true, false, not}
 use mathlib.Core.List.{List, [], _∷_}
 use Prim.Native.Nat.{ℕ, zero, suc, _+_, _-_, _≤_, _<_}
-use native.Mathlib.Nat.{suc-add, add-sub-cancel-left}
+use native.Mathlib.Nat.{suc-add, zero-add, add-sub-cancel-left}
 use native.Mathlib.Numerals.{sub-one}
 use native.Mathlib.Omega.{arith}
 use borrow.Author.Tests.{eqb-true, eqb-false, ne-eqb}
@@ -159,6 +159,23 @@ pub text-after : (s : Text) (n : ℕ) → (n ≡ 0 → ⊥) → textAt s n ≡ l
 unfolding textAt
 text-after s zero z = absurd (z refl)
 text-after s (suc k) z = rw sub-one (text-after-it k s)
+
+-- the first k lines lie within the file; where there are no bytes, nor have they any
+pub lines-none : (k : ℕ) → linesLen k [] ≡ 0
+unfolding linesLen lineLen textLen lineOf linesOf endingOf
+lines-none zero = refl
+lines-none (suc k) = simp (drop-nil, lines-none k)
+
+pub lines-le : (k : ℕ) (s : Text) → linesLen k s ≤ length s
+unfolding linesLen
+lines-le zero s = omega arith
+lines-le (suc k) s = omega (arith, line-le s, lines-le k (drop (lineLen s) s), length-drop (lineLen s) s)
+
+-- so many lines, and then so many more
+pub lines-more : (j k : ℕ) (s : Text) → linesLen (j + k) s ≡ linesLen j s + linesLen k (drop (linesLen j s) s)
+unfolding linesLen
+lines-more zero k s = simp zero-add
+lines-more (suc j) k s = rw (suc-add, lines-more j k (drop (lineLen s) s), drop-drop) (omega arith)
 
 -- The line that starts at a position. The equation alone says where it lies
 pub line-is : (s : Text) (at : ℕ) (q : LineAt) → q ≡ lineAt at (drop at s) → LineIs s at q

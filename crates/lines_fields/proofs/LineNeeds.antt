@@ -1,4 +1,4 @@
--- What each need of `ending`, `lesser`, `eight_low`, `sixteens_from`, `plain_from`, `text_end`, `line_at`, `line_start` and `line_text` asks.
+-- What each need of `ending`, `eight_low`, `sixteens_from`, `plain_from`, `text_end`, `line_at`, `lines_on`, `line_start` and `line_text` asks.
 -- Assumes nothing.
 use mathlib.Core.Path.{_≡_, refl, sym, _∙_}
 use mathlib.Core.Bool.{Bool, true, false, not, _||_}
@@ -11,14 +11,14 @@ use borrow.Author.Needs.{needs}
 use borrow.Author.Tests.{eq-eqb, ne-eqb, ltb-false}
 use lib.Dec.{eqb, ltb}
 use lib.ListN.{length, getD, take, drop, length-drop}
-use lib.Seq.{drop-drop, drop-nil}
+use lib.Seq.{drop-drop}
 use Rattle.house.specs.Text.{Text, any}
 use Rattle.house.proofs.Suffix.{drop-here, drop-past, eight}
 use Rattle.house.proofs.Small.{clash}
 use Rattle.lines_fields.specs.declared.LineAt.{LineAt}
-use Rattle.lines_fields.specs.Lines.{LF, CR, lfNext, endingOf, linesOf, lineOf, textLen, lineLen, lineAt, LineIs, textAt, linesLen}
+use Rattle.lines_fields.specs.Lines.{LF, CR, lfNext, endingOf, textLen, lineLen, lineAt, LineIs, textAt, linesLen}
 use Rattle.lines_fields.specs.Inside.{isLow}
-use Rattle.lines_fields.proofs.LineLaws.{ending-plain, text-more, text-stop, text-nil, ended-is, line-is, at-next, at-text, left-falls, text-after}
+use Rattle.lines_fields.proofs.LineLaws.{ending-plain, text-more, text-stop, text-nil, ended-is, line-is, at-next, at-text, left-falls, text-after, lines-none, lines-le}
 
 -- ending
 module _ (s : Text) (i : ℕ) where
@@ -137,19 +137,11 @@ line-found s at t e p q =
 
 pub ruleset for-line-at = (needs, line-found)
 
--- line_start: the place x where the line starts, from a position at with k lines left
-start-nil : (k : ℕ) → linesLen k [] ≡ 0
-unfolding linesLen lineLen textLen lineOf linesOf endingOf
-start-nil zero = refl
-start-nil (suc k) = simp (drop-nil, start-nil k)
-
+-- lines_on: the place x where the line starts, from a position at with k lines left
 start-suc : (k : ℕ) (s : Text) → (k ≡ 0 → ⊥) → linesLen k s ≡ lineLen s + linesLen (k - 1) (drop (lineLen s) s)
 unfolding linesLen
 start-suc zero s n = absurd (n refl)
 start-suc (suc k) s n = rw sub-one
-
-pub start-holds : (s : Text) (k : ℕ) → linesLen k s ≡ 0 + linesLen k s
-start-holds s k = simp zero-add
 
 module _ (s : Text) (at k x : ℕ) (inv : x ≡ at + linesLen k (drop at s)) where
   pub start-done : k ≡ 0 → at ≡ x
@@ -157,12 +149,22 @@ module _ (s : Text) (at k x : ℕ) (inv : x ≡ at + linesLen k (drop at s)) whe
   start-done e = rw (inv, e, add-zero)
 
   pub start-end : length s ≤ at → at ≡ x
-  start-end h = rw (inv, drop-past s at h, start-nil, add-zero)
+  start-end h = rw (inv, drop-past s at h, lines-none, add-zero)
 
   pub start-on : (q : LineAt) → LineIs s at q → (k ≡ 0 → ⊥) → x ≡ q .next + linesLen (k - 1) (drop (q .next) s)
   start-on q e n = rw (inv, start-suc k (drop at s) n, drop-drop, at-next s at q e) (omega arith)
 
-pub ruleset for-line-start = (needs, start-holds, start-done, start-end, start-on, left-falls)
+pub ruleset for-lines-on = (needs, start-done, start-end, start-on, left-falls)
+
+-- line_start: from the file's start on
+module _ (s : Text) (k r : ℕ) (e : r ≡ 0 + linesLen k (drop 0 s)) where
+  pub start-is : r ≡ linesLen k s
+  start-is = e ∙ zero-add _
+
+  pub start-in : r ≤ length s
+  start-in = omega (arith, start-is, lines-le k s)
+
+pub ruleset for-line-start = (needs, start-is, start-in)
 
 -- line_text
 pub text-none : (s : Text) (n : ℕ) → n ≡ 0 → [] ≡ textAt s n

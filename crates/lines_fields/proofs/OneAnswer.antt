@@ -7,7 +7,8 @@ use Prim.Native.Nat.{ℕ, _+_}
 use lib.ListN.{length, drop}
 use Rattle.house.specs.Text.{Text}
 use Rattle.lines_fields.specs.declared.LineAt.{LineAt}
-use Rattle.lines_fields.specs.Lines.{lineOf, fieldsOf, fieldOf, fieldText, fieldThere, fieldPosition, fieldsLen, LineIs}
+use Rattle.lines_fields.specs.declared.FieldPlace.{FieldPlace}
+use Rattle.lines_fields.specs.Lines.{lineOf, fieldsOf, fieldOf, fieldText, fieldThere, fieldPosition, linesLen, fieldsLen, placeIn, LineIs}
 use Rattle.lines_fields.specs.Inside.{part}
 use Rattle.lines_fields.specs.declared.Span.{Span}
 use Rattle.lines_fields.specs.Marks.{judgedOf, marksIn, markedCount, judgedIn, judgedSpan}
@@ -59,6 +60,12 @@ has-field s n f r q = one
 
 field-position : (s : Text) (n f : ℕ) (r q : ℕ) → r ≡ fieldPosition s n f → q ≡ fieldPosition s n f → r ≡ q
 field-position s n f r q = one
+
+lines-on : (s : Text) (at k r q : ℕ) → r ≡ at + linesLen k (drop at s) → q ≡ at + linesLen k (drop at s) → r ≡ q
+lines-on s at k r q = one
+
+find-field : (s : Text) (at f : ℕ) (r q : FieldPlace) → r ≡ placeIn (lineOf (drop at s) .text) at f → q ≡ placeIn (lineOf (drop at s) .text) at f → r ≡ q
+find-field s at f r q = one
 
 count-marked : (m : List ℕ) (r q : ℕ) → r ≡ markedCount m → q ≡ markedCount m → r ≡ q
 count-marked m r q = one

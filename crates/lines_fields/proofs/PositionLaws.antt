@@ -13,7 +13,7 @@ use lib.ListN.{length, getD, take, drop, length-drop}
 use lib.Seq.{length-take-le, take-take, drop-drop, getD-drop}
 use Rattle.house.specs.Text.{Text}
 use Rattle.house.proofs.Small.{clash}
-use Rattle.lines_fields.specs.Lines.{pipe, lineOf, textLen, lengthen, fieldsOf, fieldOf, textAt, fieldText, fieldThere, linesLen, fieldsLen, fieldPosition}
+use Rattle.lines_fields.specs.Lines.{pipe, lineOf, textLen, lengthen, fieldsOf, fieldOf, textAt, isThere, fieldText, fieldThere, linesLen, fieldsLen, fieldPosition}
 use Rattle.lines_fields.specs.Inside.{part, pipeLen}
 use Rattle.lines_fields.proofs.LineLaws.{text-is, text-after, text-from}
 use Rattle.lines_fields.proofs.FieldLaws.{lengthen-length, start-zero, fields-first, fields-none, fields-after, fields-le, field-first}
@@ -93,7 +93,7 @@ unfolding fieldPosition
 position s m k h = rw (h, sub-one, sub-one)
 
 pub position-cut : (s : Text) (n f : ℕ) → fieldThere s n f ≡ true → part s (fieldPosition s n f) (fieldPosition s n f + length (fieldText s n f)) ≡ fieldText s n f
-unfolding fieldThere fieldText fieldOf textAt fieldsOf textLen
+unfolding fieldThere isThere fieldText fieldOf textAt fieldsOf textLen
 position-cut s n zero h = clash (cc)
 position-cut s zero (suc k) h = absurd (omega (arith, ltb-true k 0 h))
 position-cut s (suc m) (suc k) h =
@@ -108,6 +108,9 @@ module _ (s : Text) (at k a : ℕ) (p : a ≡ at + fieldsLen k (lineOf (drop at 
   rest-on =
       ap (λ (n : ℕ). lineOf (drop n s) .text) p ∙ ap (λ (t : Text). lineOf t .text) (sym (drop-drop (fieldsLen k (lineOf (drop at s) .text)) at s))
       ∙ text-from (fieldsLen k (lineOf (drop at s) .text)) (drop at s) (fields-le k (lineOf (drop at s) .text))
+
+  pub fields-on : fieldsOf (lineOf (drop a s) .text) ≡ drop k (fieldsOf (lineOf (drop at s) .text))
+  fields-on = rw (rest-on, fields-after)
 
   pub field-on : (f : ℕ) → fieldOf (lineOf (drop a s) .text) (suc f) ≡ fieldOf (lineOf (drop at s) .text) (suc (k + f))
   unfolding fieldOf

@@ -8,6 +8,7 @@ use lib.ListN.{length, getD, drop}
 use lib.Dec.{eqb, ltb}
 use Rattle.house.specs.Text.{Text}
 use Rattle.lines_fields.specs.declared.LineAt.{LineAt}
+use Rattle.lines_fields.specs.declared.FieldPlace.{FieldPlace}
 
 abbrev pub LF : ℕ
 LF = 10
@@ -102,10 +103,13 @@ textAt s (suc k) = getD (linesOf s) k noLine .text
 unfoldable pub fieldText : Text → ℕ → ℕ → Text
 fieldText s n f = fieldOf (textAt s n) f
 
--- "a separate yes or no tells an empty field from one that isn't there"
+-- "a separate yes or no tells an empty field from one that isn't there": of a line's text, and of line n
+unfoldable pub isThere : Text → ℕ → Bool
+isThere t zero = false
+isThere t (suc f) = ltb f (length (fieldsOf t))
+
 unfoldable pub fieldThere : Text → ℕ → ℕ → Bool
-fieldThere s n zero = false
-fieldThere s n (suc f) = ltb f (length (fieldsOf (textAt s n)))
+fieldThere s n f = isThere (textAt s n) f
 
 -- Where that part starts in the file: after the lines before its line, and in its line after the fields before it
 
@@ -123,3 +127,7 @@ fieldsLen (suc k) (b ∷ t) = suc (cond (eqb b pipe) (fieldsLen k t) (fieldsLen 
 -- 0 where the field is not there
 unfoldable pub fieldPosition : Text → ℕ → ℕ → ℕ
 fieldPosition s n f = cond (fieldThere s n f) (linesLen (n - 1) s + fieldsLen (f - 1) (textAt s n)) 0
+
+-- Field f of a line with text t that starts at a position: whether it is there, where its text starts, and how long it is
+unfoldable pub placeIn : Text → ℕ → ℕ → FieldPlace
+placeIn t at f = record { there = isThere t f; start = cond (isThere t f) (at + fieldsLen (f - 1) t) 0; length = length (fieldOf t f) }

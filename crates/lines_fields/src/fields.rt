@@ -1,11 +1,12 @@
 // The fields of a line: texts that a pipe ends.
+use crate::FieldPlace;
 use crate::line::ending;
 use crate::line::line_start;
 use crate::line::line_text;
 ghost use mathlib.Core.Path.{_≡_};
 ghost use Prim.Native.Nat.{_+_, _≤_, _<_};
 ghost use lib.ListN.{drop, length};
-ghost use Rattle.lines_fields.specs.Lines.{lineOf, fieldsOf, fieldOf, fieldText, fieldThere, fieldsLen, fieldPosition};
+ghost use Rattle.lines_fields.specs.Lines.{lineOf, fieldsOf, fieldOf, fieldText, fieldThere, fieldsLen, fieldPosition, placeIn};
 ghost use Rattle.lines_fields.specs.Inside.{pipeLen};
 
 // How many fields a text of few bytes has: counted in a byte, so that many bytes are looked at at a time.
@@ -212,6 +213,33 @@ pub(crate) fn field_at(file: &[u8], at: usize, f: usize) -> &[u8]
         return &file[start..end];
     }
     &file[..0]
+}
+
+// Where field f of the line that starts at a position stands in the file, counted from 1.
+pub fn find_field(file: &[u8], at: usize, f: usize) -> FieldPlace
+    ensures { λ r. ⌜ r ≡ placeIn (lineOf (drop at (now (file .entry))) .text) at f ⌝ }
+{
+    let none = FieldPlace {
+        there: false,
+        start: 0,
+        length: 0,
+    };
+    if f == 0 {
+        return none;
+    }
+    let from = start_at(file, at, f - 1);
+    let end = field_end(file, from);
+    if file.len() <= end {
+        return none;
+    }
+    if file[end] != b'|' {
+        return none;
+    }
+    FieldPlace {
+        there: true,
+        start: from,
+        length: end - from,
+    }
 }
 
 // The text of field f of a line, both counted from 1; empty where it is not there.

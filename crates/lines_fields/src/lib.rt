@@ -9,9 +9,11 @@ pub use fields::field_from;
 pub use fields::field_of;
 pub use fields::field_position;
 pub use fields::field_start;
+pub use fields::find_field;
 pub use fields::has_field;
 pub use fields::start_at;
 pub use line::line_at;
+pub use line::lines_on;
 pub use marks::count_marked;
 pub use marks::judged;
 pub use marks::judged_at;
@@ -28,6 +30,13 @@ pub struct LineAt {
     pub end: usize,
     pub next: usize,
     pub lf: bool,
+}
+
+// A field in its file: whether it is there, where its text starts, and how long it is; 0 and 0 where it is not there.
+pub struct FieldPlace {
+    pub there: bool,
+    pub start: usize,
+    pub length: usize,
 }
 
 // A part of a text, from a position to another.

@@ -115,21 +115,28 @@ pub fn line_at(file: &[u8], at: usize) -> LineAt
     }
 }
 
+// Where the line after k lines from a position on starts; where there is none, the file's end, or that position if it is past it.
+pub fn lines_on(file: &[u8], at: usize, k: usize) -> usize
+    ensures { λ r. ⌜ r ≡ at + linesLen k (drop at (now (file .entry))) ⌝ }
+{
+    let mut start = at;
+    let mut left = k;
+    while start < file.len() {
+        if left == 0 {
+            return start;
+        }
+        start = line_at(file, start).next;
+        left -= 1;
+    }
+    start
+}
+
 // Where the line after k lines starts; the file's end where there is none.
 pub(crate) fn line_start(file: &[u8], k: usize) -> usize
     ensures { λ r. ⌜ r ≡ linesLen k (now (file .entry)) ⌝ }
     ensures { λ r. ⌜ r ≤ length (now (file .entry)) ⌝ }
 {
-    let mut at = 0;
-    let mut left = k;
-    while at < file.len() {
-        if left == 0 {
-            return at;
-        }
-        at = line_at(file, at).next;
-        left -= 1;
-    }
-    at
+    lines_on(file, 0, k)
 }
 
 // The text of line n, counted from 1; empty where there is none.
