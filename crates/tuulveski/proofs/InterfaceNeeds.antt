@@ -2,16 +2,20 @@
 -- Assumes nothing.
 use mathlib.Core.Path.{_≡_, sym, ap, _∙_, subst}
 use mathlib.Core.Bool.{Bool}
-use Prim.Native.Nat.{ℕ, _<_}
+use Prim.Native.Nat.{ℕ, _+_, _-_, _≤_, _<_}
 use borrow.Author.Needs.{needs}
-use lib.ListN.{length}
+use native.Mathlib.Nat.{add-zero}
+use native.Mathlib.Omega.{arith}
+use borrow.Author.Tests.{lt-ltb, le-ltb}
+use lib.ListN.{length, drop}
 use Rattle.house.specs.Text.{Text}
-use Rattle.lines.specs.Lines.{fieldText, fieldThere, fieldPosition}
+use Rattle.lines_fields.specs.declared.FieldPlace.{FieldPlace}
+use Rattle.lines.specs.Lines.{lineOf, fieldText, fieldThere, linesLen, fieldPosition, placeIn}
 use Rattle.tuulveski.specs.declared.interface.Numbers.{Numbers}
 use Rattle.answers.specs.declared.Answer.{Answer}
 use Rattle.answers.specs.declared.Answer.the-variants.{Accepted, Date, Long, Book, Ledger, Shape as BadShape, Findings, Full}
 use Rattle.answers.specs.Answers.{Lent, Outcome, left, check, numbersOf}
-use Rattle.tuulveski.specs.Interface.{numbers, numbersIn, fieldAt}
+use Rattle.tuulveski.specs.Interface.{numbers, numbersIn, fieldAt, fieldFrom, lineFrom}
 use Rattle.tuulveski.specs.Inside.{Narrow}
 use Rattle.tuulveski.proofs.NumberLaws.{check-narrow}
 
@@ -116,3 +120,24 @@ unfolding fieldAt
 field-is s n f p at t ep ea et = rw (ep, ea, et)
 
 pub ruleset for-tuulveski-field = (needs, field-is)
+
+-- tuulveski_line_from
+pub line-stays : (s : Text) (a n m : ℕ) → m ≤ n → record { line = n; start = a } ≡ lineFrom s a n m
+unfolding lineFrom linesLen
+line-stays s a n m h =
+    let z : m - n ≡ 0 = omega arith in
+    rw (le-ltb n m h, z, add-zero)
+
+pub line-goes-on : (s : Text) (a n m r : ℕ) → n < m → r ≡ a + linesLen (m - n) (drop a s) → record { line = m; start = r } ≡ lineFrom s a n m
+unfolding lineFrom
+line-goes-on s a n m r h e = rw (lt-ltb n m h, e)
+
+pub ruleset for-tuulveski-line-from = (needs, line-stays, line-goes-on)
+
+-- tuulveski_field_from
+pub field-placed : (s : Text) (a f : ℕ) (p : FieldPlace) → p ≡ placeIn (lineOf (drop a s) .text) a f
+    → record { present = p .there; start = p .start; length = p .length } ≡ fieldFrom s a f
+unfolding fieldFrom
+field-placed s a f p e = rw e
+
+pub ruleset for-tuulveski-field-from = (needs, field-placed)

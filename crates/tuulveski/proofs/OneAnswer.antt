@@ -5,8 +5,9 @@ use Prim.Native.Nat.{ℕ}
 use Rattle.house.specs.Text.{Text}
 use Rattle.tuulveski.specs.declared.interface.Numbers.{Numbers}
 use Rattle.tuulveski.specs.declared.interface.FieldAt.{FieldAt}
+use Rattle.tuulveski.specs.declared.interface.LineFrom.{LineFrom}
 use Rattle.answers.specs.Answers.{Lent}
-use Rattle.tuulveski.specs.Interface.{numbers, numbersIn, GivesNumbers, fieldAt}
+use Rattle.tuulveski.specs.Interface.{numbers, numbersIn, GivesNumbers, fieldAt, fieldFrom, lineFrom}
 
 -- the eight numbers are the whole of the struct
 same-numbers : (n m : Numbers) → numbersIn n ≡ numbersIn m → n ≡ m
@@ -30,3 +31,9 @@ tuulveski-check-one x n k l m r s e f =
 
 tuulveski-field-one : (s : Text) (line field : ℕ) (r q : FieldAt) → r ≡ fieldAt s line field → q ≡ fieldAt s line field → r ≡ q
 tuulveski-field-one s line field r q e f = e ∙ sym f
+
+tuulveski-line-from-one : (s : Text) (start number line : ℕ) (r q : LineFrom) → r ≡ lineFrom s start number line → q ≡ lineFrom s start number line → r ≡ q
+tuulveski-line-from-one s start number line r q e f = e ∙ sym f
+
+tuulveski-field-from-one : (s : Text) (start field : ℕ) (r q : FieldAt) → r ≡ fieldFrom s start field → q ≡ fieldFrom s start field → r ≡ q
+tuulveski-field-from-one s start field r q e f = e ∙ sym f

@@ -1,13 +1,16 @@
 -- What the C interface gives.
 -- Assumes nothing.
-use Prim.Native.Nat.{ℕ}
+use Prim.Native.Nat.{ℕ, _+_, _-_}
 use mathlib.Core.Path.{_≡_}
 use mathlib.Core.List.{List, [], _∷_}
-use lib.ListN.{length}
+use mathlib.Core.Bool.{cond}
+use lib.Dec.{ltb}
+use lib.ListN.{length, drop}
 use Rattle.house.specs.Text.{Text}
-use Rattle.lines.specs.Lines.{fieldText, fieldThere, fieldPosition}
+use Rattle.lines.specs.Lines.{lineOf, fieldText, fieldThere, linesLen, fieldPosition, placeIn}
 use Rattle.tuulveski.specs.declared.interface.Numbers.{Numbers}
 use Rattle.tuulveski.specs.declared.interface.FieldAt.{FieldAt}
+use Rattle.tuulveski.specs.declared.interface.LineFrom.{LineFrom}
 use Rattle.answers.specs.Answers.{Lent, check, numbersOf}
 
 abbrev pub numbers : ℕ → ℕ → ℕ → ℕ → ℕ → ℕ → ℕ → ℕ → Numbers
@@ -38,3 +41,23 @@ pub record GivesNumbers (x : Lent) (n : Numbers) (ledger area : Text) : Type 0 w
 unfoldable pub fieldAt : Text → ℕ → ℕ → FieldAt
 fieldAt file line field =
     record { present = fieldThere file line field; start = fieldPosition file line field; length = length (fieldText file line field) }
+
+-- GOING ON FROM A LINE, so that all findings of a file are shown in one pass. That following these two gives what `fieldAt` gives is proved:
+-- `specs/Passing`.
+
+-- line `line`, from line `number` on, which starts at a position: it starts after the lines between. It never goes back.
+unfoldable pub lineFrom : Text → ℕ → ℕ → ℕ → LineFrom
+lineFrom file start number line = record { line = cond (ltb number line) line number; start = start + linesLen (line - number) (drop start file) }
+
+-- the text of the line that starts at a position
+abbrev pub textFrom : Text → ℕ → Text
+textFrom file start = lineOf (drop start file) .text
+
+-- a field of it: whether it is there, where it starts and how long it is
+unfoldable pub fieldFrom : Text → ℕ → ℕ → FieldAt
+fieldFrom file start field =
+    record {
+      present = placeIn (textFrom file start) start field .there;
+      start = placeIn (textFrom file start) start field .start;
+      length = placeIn (textFrom file start) start field .length;
+    }

@@ -1,3 +1,4 @@
 pub mod Interface
+pub mod Passing
 pub mod Inside
 pub mod CDemands

@@ -3,7 +3,7 @@ use answers::Answer;
 ghost use mathlib.Core.Path.{_≡_};
 ghost use Prim.Native.Nat.{_<_};
 ghost use Rattle.answers.specs.Answers.{lent, numbersOf};
-ghost use Rattle.tuulveski.specs.Interface.{numbers, numbersIn, GivesNumbers, fieldAt};
+ghost use Rattle.tuulveski.specs.Interface.{numbers, numbersIn, GivesNumbers, fieldAt, fieldFrom, lineFrom};
 ghost use Rattle.tuulveski.specs.Inside.{Narrow};
 
 // The numbers of an answer, those that it does not name being 0.
@@ -25,6 +25,13 @@ pub struct FieldAt {
     pub present: bool,
     pub start: usize,
     pub length: usize,
+}
+
+// A line: its number, counted from 1, and where it starts in the file.
+#[repr(C)]
+pub struct LineFrom {
+    pub line: usize,
+    pub start: usize,
 }
 
 // A number of 32 bits.
@@ -110,5 +117,38 @@ pub extern "C" fn tuulveski_field(file: &[u8], line: usize, field: usize) -> Fie
         present,
         start,
         length: text.len(),
+    }
+}
+
+// Line `line`, found by going on from line `number`, which starts at a position.
+#[no_mangle]
+pub extern "C" fn tuulveski_line_from(
+    file: &[u8],
+    start: usize,
+    number: usize,
+    line: usize,
+) -> LineFrom
+    ensures { λ r. ⌜ r ≡ lineFrom (now (file .entry)) start number line ⌝ }
+{
+    if line <= number {
+        return LineFrom {
+            line: number,
+            start,
+        };
+    }
+    let start = lines::lines_on(file, start, line - number);
+    LineFrom { line, start }
+}
+
+// Field `field`, counted from 1, of the line that starts at a position.
+#[no_mangle]
+pub extern "C" fn tuulveski_field_from(file: &[u8], start: usize, field: usize) -> FieldAt
+    ensures { λ r. ⌜ r ≡ fieldFrom (now (file .entry)) start field ⌝ }
+{
+    let place = lines::find_field(file, start, field);
+    FieldAt {
+        present: place.there,
+        start: place.start,
+        length: place.length,
     }
 }

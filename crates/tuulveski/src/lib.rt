@@ -3,3 +3,5 @@ mod interface;
 
 pub use interface::tuulveski_check;
 pub use interface::tuulveski_field;
+pub use interface::tuulveski_field_from;
+pub use interface::tuulveski_line_from;
