@@ -1,17 +1,22 @@
-/* A charting product's side of the check: it keeps the clinic's ledger in a file, submits a file, and tells the findings in words.
+/* A small charting product: it keeps the clinic's ledger in a file, submits a file to the check, and tells the findings in words.
  *
- * usage: submit LEDGER
+ * usage: submit [--create] LEDGER
  *
- * The specification's File E is submitted twice: first with the same lot scanned twice (case P2), which is refused, then as it is.
- * Run it again on the ledger that it left, and File E is refused too, since its event is live. */
-#define _POSIX_C_SOURCE 200809L
+ * The specification's File E is submitted twice: first with the same lot scanned twice (case P2), which is refused, then as it is, which is
+ * accepted. Run it again on the ledger that it left, and File E is refused too, since its event is live. A ledger that is not there is made
+ * only where --create is given. The exit status is 0 where both files got an answer, 1 where one did not, 2 where the words are not
+ * understood.
+ *
+ * ledger_file.c and whole_file.c of the command are compiled as the product's own. The check is called on the first thread here, which has
+ * the stack for it; give a thread that calls it at least 4 MiB. */
+#include "ledger_file.h"
 #include "tuulveski.h"
+#include "tuulveski_words.h"
 
 #include <stdio.h>
 #include <string.h>
-#include <unistd.h>
 
-enum { TODAY = 20220930, SLOTS = 200, ROOM = 100 };
+enum { TODAY = 20220930, SLOTS = 200, FINDINGS_SHOWN = 100, WAIT_SECONDS = 10 };
 
 static const char FILE_E[] =
     "IV|7.2|\n"
@@ -33,115 +38,109 @@ static const char BOOK_E[] =
     "\7TESTV               5099999999"
     "\10TESTV               TESTA               99999999";
 
-static const char *const RULES[] = {
-    "",
-    "must be given",
-    "is not of its form",
-    "is not version 7.2",
-    "is not in the code book",
-    "is not in force on the record's date, or has ended since and II 5 is not H",
-    "is not the patient's ULI",
-    "is not the record's place in the file",
-    "is after today, or before the patient's birth",
-    "does not go with the site or method given",
-    "must be given, since its partner is",
-    "has no pair with the vaccine in force on that date, or the pair has ended since and II 5 is not H",
-    "is given twice for one immunization",
-    "does not have the antigens of the first record of this event",
-    "is the same lot as an earlier record of this event",
-    "names an event that an earlier block names",
-    "adds an event that is live already",
-    "changes an event that is not live",
-    "deletes an event that is not live",
+struct submission {
+    const char *name;
+    const uint8_t *bytes;
+    size_t len;
 };
 
-static const char *const ANSWERS[] = {
-    "accepted", "today is no date", "the file is too long", "the code book is malformed", "the ledger is malformed",
-    "a fault of shape", "findings", "the ledger is full",
-};
-
-/* The ledger's bytes; all zeros where there is no file yet. */
-static int read_ledger(const char *path, uint8_t *ledger, size_t len)
+static bool complain(const char *path, const char *why)
 {
-    memset(ledger, 0, len);
-    FILE *in = fopen(path, "rb");
-    if (!in)
-        return 1;
-    size_t got = fread(ledger, 1, len, in);
-    int whole = got == len && fgetc(in) == EOF;
-    fclose(in);
-    return whole;
+    fprintf(stderr, "%s: %s\n", path, why);
+    return false;
 }
 
-/* The new bytes go to a file of their own, which takes the old one's name once it is on the disk: a ledger is never half written. */
-static int keep_ledger(const char *path, const uint8_t *ledger, size_t len)
+/* Makes a ledger of free slots. One that another process made meanwhile will do as well. */
+static bool create_ledger(const char *path)
 {
-    char temporary[4096];
-    int n = snprintf(temporary, sizeof temporary, "%s.new", path);
-    if (n < 0 || (size_t)n >= sizeof temporary)
-        return 0;
-    FILE *out = fopen(temporary, "wb");
-    if (!out)
-        return 0;
-    int kept = fwrite(ledger, 1, len, out) == len && fflush(out) == 0 && fsync(fileno(out)) == 0;
-    kept = fclose(out) == 0 && kept;
-    if (!kept || rename(temporary, path) != 0) {
-        remove(temporary);
-        return 0;
-    }
-    return 1;
+    static const uint8_t free_slots[SLOTS * TUULVESKI_SLOT_BYTES];
+    char why[LEDGER_WHY];
+    bool exists;
+    return ledger_create(path, free_slots, sizeof free_slots, &exists, why) || exists || complain(path, why);
 }
 
-static void tell_findings(const uint8_t *file, size_t file_len, const tuulveski_answer *a, const uint8_t *found)
+static bool hold_ledger(struct ledger_file *ledger, const char *path, bool may_create)
 {
-    for (size_t i = 0; i < a->findings && i < ROOM; i++) {
+    if (ledger_hold(ledger, path, WAIT_SECONDS))
+        return true;
+    if (!ledger->missing || !may_create)
+        return complain(path, ledger->why);
+    return create_ledger(path) && (ledger_hold(ledger, path, WAIT_SECONDS) || complain(path, ledger->why));
+}
+
+/* Findings are in the order of the file, so that the file is gone through once for all of them. */
+static void tell_findings(const struct submission *file, const tuulveski_answer *answer, const uint8_t *found)
+{
+    tuulveski_line_at here = TUULVESKI_FIRST_LINE;
+    for (size_t i = 0; i < answer->findings && i < FINDINGS_SHOWN; i++) {
         tuulveski_finding f = tuulveski_finding_at(found, i);
-        tuulveski_field_at at = tuulveski_field(file, file_len, f.line, f.field);
-        printf("  line %u, field %u, \"%.*s\": %s (rule %u)\n", (unsigned)f.line, (unsigned)f.field, (int)at.length,
-               (const char *)file + at.start, RULES[f.rule], (unsigned)f.rule);
+        here = tuulveski_line_from(file->bytes, file->len, here.start, here.line, f.line);
+        tuulveski_field_at type = tuulveski_field_from(file->bytes, file->len, here.start, 1);
+        tuulveski_field_at text = tuulveski_field_from(file->bytes, file->len, here.start, f.field);
+        uint32_t record = tuulveski_record_of(file->bytes + type.start, type.length);
+        printf("  line %u, %s, \"%.*s\": %s (rule %u)\n", (unsigned)f.line, tuulveski_field_name(record, f.field), (int)text.length,
+               (const char *)file->bytes + text.start, tuulveski_rule_text(f.rule), (unsigned)f.rule);
     }
-    if (a->findings > ROOM)
-        printf("  and %u more\n", (unsigned)(a->findings - ROOM));
+    if (answer->findings > FINDINGS_SHOWN)
+        printf("  and %u more\n", (unsigned)(answer->findings - FINDINGS_SHOWN));
 }
 
-static int submit(const char *what, const char *text, const char *ledger_path)
+static void tell_refused(const struct submission *file, const tuulveski_answer *answer, const uint8_t *found)
 {
-    static uint8_t ledger[SLOTS * TUULVESKI_SLOT_BYTES];
-    uint8_t found[ROOM * TUULVESKI_FINDING_BYTES];
-    const uint8_t *file = (const uint8_t *)text;
-    size_t file_len = strlen(text);
-    if (!read_ledger(ledger_path, ledger, sizeof ledger)) {
-        fprintf(stderr, "%s: not a ledger of %d slots\n", ledger_path, SLOTS);
-        return 0;
+    printf("%s: refused: %s\n", file->name, tuulveski_answer_text(answer->answer));
+    if (answer->answer == TUULVESKI_SHAPE)
+        printf("  line %u: %s\n", (unsigned)answer->line, tuulveski_cause_text(answer->cause));
+    if (answer->answer == TUULVESKI_FINDINGS)
+        tell_findings(file, answer, found);
+}
+
+static void tell_accepted(const struct submission *file, const tuulveski_answer *answer)
+{
+    printf("%s: accepted: %u added, %u changed, %u deleted, %u not immunized\n", file->name, (unsigned)answer->added,
+           (unsigned)answer->changed, (unsigned)answer->deleted, (unsigned)answer->not_immunized);
+}
+
+/* Whether the file got an answer. It is accepted once the ledger is kept, and not before. */
+static bool submit(const struct submission *file, const char *path, bool may_create)
+{
+    uint8_t found[FINDINGS_SHOWN * TUULVESKI_FINDING_BYTES];
+    struct ledger_file ledger;
+    if (!hold_ledger(&ledger, path, may_create))
+        return false;
+    tuulveski_answer answer = tuulveski_check(TODAY, file->bytes, file->len, (const uint8_t *)BOOK_E, sizeof BOOK_E - 1, ledger.bytes,
+                                              ledger.len, found, sizeof found);
+    if (answer.answer != TUULVESKI_ACCEPTED) {
+        ledger_release(&ledger);
+        tell_refused(file, &answer, found);
+        return answer.answer >= TUULVESKI_SHAPE;
     }
-    tuulveski_answer a = tuulveski_submit(TODAY, file, file_len, (const uint8_t *)BOOK_E, sizeof BOOK_E - 1, ledger, sizeof ledger,
-                                          found, sizeof found);
-    printf("%s: %s\n", what, ANSWERS[a.answer]);
-    if (a.answer == TUULVESKI_SHAPE)
-        printf("  line %u, cause %u\n", (unsigned)a.line, (unsigned)a.cause);
-    if (a.answer == TUULVESKI_FINDINGS)
-        tell_findings(file, file_len, &a, found);
-    if (a.answer != TUULVESKI_ACCEPTED)
-        return 1;
-    printf("  %u added, %u changed, %u deleted, %u not immunized\n", (unsigned)a.added, (unsigned)a.changed, (unsigned)a.deleted,
-           (unsigned)a.not_immunized);
-    if (!keep_ledger(ledger_path, ledger, sizeof ledger)) {
-        fprintf(stderr, "%s: the ledger could not be kept\n", ledger_path);
-        return 0;
-    }
-    return 1;
+    if (!ledger_keep(&ledger, ledger.bytes, ledger.len))
+        return complain(path, ledger.why);
+    tell_accepted(file, &answer);
+    return true;
+}
+
+static bool submit_both(const char *path, bool may_create)
+{
+    char same_lot[sizeof FILE_E];
+    memcpy(same_lot, FILE_E, sizeof FILE_E);
+    memcpy(strstr(same_lot, "|L2|"), "|L1|", 4);
+    const struct submission twice = {"The same lot twice", (const uint8_t *)same_lot, sizeof FILE_E - 1};
+    const struct submission file_e = {"File E", (const uint8_t *)FILE_E, sizeof FILE_E - 1};
+    return submit(&twice, path, may_create) && submit(&file_e, path, may_create);
 }
 
 int main(int argc, char **argv)
 {
-    if (argc != 2) {
-        fprintf(stderr, "usage: submit LEDGER\n");
+    bool may_create = argc > 1 && strcmp(argv[1], "--create") == 0;
+    if (argc != (may_create ? 3 : 2)) {
+        fprintf(stderr, "usage: submit [--create] LEDGER\n");
         return 2;
     }
-    char twice[sizeof FILE_E];
-    memcpy(twice, FILE_E, sizeof FILE_E);
-    memcpy(strstr(twice, "|L2|"), "|L1|", 4);
-    if (!submit("the same lot twice", twice, argv[1]))
+    bool answered = submit_both(argv[argc - 1], may_create);
+    if (fflush(stdout) != 0) {
+        perror("standard output");
         return 1;
-    return submit("File E", FILE_E, argv[1]) ? 0 : 1;
+    }
+    return answered ? 0 : 1;
 }
