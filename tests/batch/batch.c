@@ -2,7 +2,8 @@
  *
  * A case is today; the file, the book and the ledger, each as its length and its bytes; the length of the findings area. Every number has four
  * bytes, the lowest first. The area is filled with 0xEE before the check. A line is the eight numbers of the answer, and the 64-bit FNV-1a
- * hashes of the ledger after and of the area after, in hex.
+ * hashes of the ledger after and of the area after, and of what the readers of fields say of the file, in hex
+ * (tests/differential/README.md says what they are asked).
  */
 #include <inttypes.h>
 #include <stdio.h>
@@ -52,6 +53,83 @@ static uint64_t hash(struct bytes b) {
     return h;
 }
 
+/* What the readers are asked of a file, and the hash of what they said so far. */
+struct asked {
+    struct bytes file;
+    size_t lines;
+    uint64_t state, said;
+};
+
+/* The splitmix64 step. */
+static uint64_t any(struct asked *a) {
+    uint64_t mixed = a->state += 0x9e3779b97f4a7c15u;
+    mixed = (mixed ^ mixed >> 30) * 0xbf58476d1ce4e5b9u;
+    mixed = (mixed ^ mixed >> 27) * 0x94d049bb133111ebu;
+    return mixed ^ mixed >> 31;
+}
+
+/* Mostly a number up to two past the one that is given, else such a one with 2^32 added, any number, or one of the greatest. */
+static size_t near(struct asked *a, size_t most) {
+    uint64_t kind = any(a) % 8, number = any(a);
+    switch (kind) {
+    case 0: return (size_t)number;
+    case 1: return (size_t)(UINT64_MAX - number % 3);
+    case 2: return (size_t)(number % (most + 3) + (UINT64_C(1) << 32));
+    default: return (size_t)(number % (most + 3));
+    }
+}
+
+static void say(struct asked *a, uint64_t number) {
+    a->said = (a->said ^ number) * 1099511628211u;
+}
+
+static void say_field(struct asked *a, tuulveski_field_at f) {
+    say(a, f.present);
+    say(a, f.start);
+    say(a, f.length);
+}
+
+static void ask_pair(struct asked *a) {
+    size_t line = near(a, a->lines), field = near(a, 30);
+    say_field(a, tuulveski_field(a->file.at, a->file.len, line, field));
+}
+
+/* From the first line on so many lines at a time; fields 0 to 29 of some of them. */
+static void ask_walk(struct asked *a, size_t width) {
+    size_t every = 1 + a->lines / width / 32, met = 0;
+    tuulveski_line_at here = TUULVESKI_FIRST_LINE;
+    for (; here.start < a->file.len; met++) {
+        say(a, here.start);
+        for (size_t field = 0; met % every == 0 && field < 30; field++)
+            say_field(a, tuulveski_field_from(a->file.at, a->file.len, here.start, field));
+        here = tuulveski_line_from(a->file.at, a->file.len, here.start, here.line, here.line + width);
+    }
+    say(a, here.line);
+    say(a, here.start);
+}
+
+/* From any place, and from just before an LF. */
+static void ask_stray(struct asked *a) {
+    size_t start = near(a, a->file.len), number = near(a, a->lines), line = near(a, a->lines), field = near(a, 30);
+    if (any(a) % 4 == 0)
+        while (start < a->file.len && a->file.at[start] != '\n') start++;
+    tuulveski_line_at l = tuulveski_line_from(a->file.at, a->file.len, start, number, line);
+    say(a, l.line);
+    say(a, l.start);
+    say_field(a, tuulveski_field_from(a->file.at, a->file.len, start, field));
+}
+
+static uint64_t fields(struct bytes file) {
+    struct asked a = {file, 1, hash(file), 0};
+    for (size_t i = 0; i < file.len; i++) a.lines += file.at[i] == '\n';
+    for (int i = 0; i < 8; i++) ask_pair(&a);
+    ask_walk(&a, 1);
+    ask_walk(&a, 2 + (size_t)(any(&a) % 2));
+    ask_walk(&a, 4 + (size_t)(any(&a) % 29));
+    for (int i = 0; i < 16; i++) ask_stray(&a);
+    return a.said;
+}
+
 int main(void) {
     uint32_t today, len;
     while (number(&today)) {
@@ -61,8 +139,8 @@ int main(void) {
         memset(area.at, 0xEE, area.len);
         tuulveski_answer a =
             tuulveski_check(today, file.at, file.len, book.at, book.len, ledger.at, ledger.len, area.at, area.len);
-        printf("%" PRIu32 " %" PRIu32 " %" PRIu32 " %" PRIu32 " %" PRIu32 " %" PRIu32 " %" PRIu32 " %" PRIu32 " %016" PRIx64 " %016" PRIx64 "\n",
-               a.answer, a.line, a.cause, a.findings, a.added, a.changed, a.deleted, a.not_immunized, hash(ledger), hash(area));
+        printf("%" PRIu32 " %" PRIu32 " %" PRIu32 " %" PRIu32 " %" PRIu32 " %" PRIu32 " %" PRIu32 " %" PRIu32 " %016" PRIx64 " %016" PRIx64 " %016" PRIx64 "\n",
+               a.answer, a.line, a.cause, a.findings, a.added, a.changed, a.deleted, a.not_immunized, hash(ledger), hash(area), fields(file));
         free(file.at);
         free(book.at);
         free(ledger.at);

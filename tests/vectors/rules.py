@@ -501,7 +501,7 @@ def against(command):
     for (why, case), line in zip(whole, printed):
         numbers, ledger, area = verdict(case)
         words = line.split()
-        if [int(w) for w in words[:8]] != numbers or [int(w, 16) for w in words[8:]] != [fnv_1a(ledger), fnv_1a(area)]:
+        if [int(w) for w in words[:8]] != numbers or [int(w, 16) for w in words[8:10]] != [fnv_1a(ledger), fnv_1a(area)]:
             print("differs:", why, line, numbers)
             failed = True
     print(f"{len(whole)} vectors,", "not all" if failed else "all", "as they must be")

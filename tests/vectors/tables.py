@@ -77,19 +77,20 @@ def file(pairs):
 
 
 def case(table, asked):
-    """What a batch program reads, and what it must print. A last II breaks a rule in any case, so that there are findings."""
+    """What a batch program reads, and what it must print before its last word, which is of fields. A last II breaks a rule in any case, so
+    that there are findings."""
     asked = asked + [UNSOUND]
     found = [(BEFORE + 2 * i + 1, *broken) for i, t in enumerate(asked) if (broken := table.finding(t, table.codes))]
     area = b"".join(struct.pack("<BIB", rule, line, field) for line, field, rule in found)
     read = struct.pack("<I", TODAY) + part(file(map(table.pair, asked))) + part(BOOK) + part(b"") + struct.pack("<I", len(area))
-    return read, f"6 0 0 {len(found)} 0 0 0 0 {fnv_1a(b''):016x} {fnv_1a(area):016x}\n"
+    return read, f"6 0 0 {len(found)} 0 0 0 0 {fnv_1a(b''):016x} {fnv_1a(area):016x}"
 
 
 def wrong(command, table, asked):
     """The texts of which something else is said than must be, some of them where they are many; all that are asked, where each half of them
     alone is right."""
     read, must = case(table, asked)
-    if subprocess.run(command, input=read, stdout=subprocess.PIPE, check=True).stdout.decode() == must:
+    if subprocess.run(command, input=read, stdout=subprocess.PIPE, check=True).stdout.decode().rpartition(" ")[0] == must:
         return []
     if len(asked) == 1:
         return asked

@@ -1,6 +1,7 @@
 //! A case, what is said of it, and the stream that carries both.
 
 use crate::check::{self, Answer};
+use crate::fields::{self, Document};
 use std::io::{self, Read, Write};
 
 /// The byte that fills the findings area before the check.
@@ -16,13 +17,14 @@ pub struct Case {
     pub room: usize,
 }
 
-/// What a check says of a case: the eight numbers and two hashes, of the ledger
-/// after and of the findings area after.
+/// What a program says of a case: the eight numbers and three hashes, of the
+/// ledger after, of the findings area after and of what is said of fields.
 #[derive(Clone, Copy, Debug, PartialEq, Eq)]
 pub struct Verdict {
     pub numbers: [u32; 8],
     pub ledger: u64,
     pub area: u64,
+    pub fields: u64,
 }
 
 /// The answer with the bytes after.
@@ -50,6 +52,7 @@ impl Case {
             numbers: outcome.answer.numbers(),
             ledger: fnv_1a(&outcome.ledger),
             area: fnv_1a(&outcome.area),
+            fields: fields::answers(&self.file, &mut Document::of(&self.file)),
         }
     }
 
@@ -111,29 +114,30 @@ impl Verdict {
     pub fn line(&self) -> String {
         let numbers: Vec<String> = self.numbers.iter().map(u32::to_string).collect();
         format!(
-            "{} {:016x} {:016x}",
+            "{} {:016x} {:016x} {:016x}",
             numbers.join(" "),
             self.ledger,
-            self.area
+            self.area,
+            self.fields
         )
     }
 
     /// What a line of a batch program says.
     pub fn of_line(line: &str) -> Option<Verdict> {
         let words: Vec<&str> = line.split_whitespace().collect();
-        if words.len() != 10 {
+        if words.len() != 11 {
             return None;
         }
         let mut numbers = [0; 8];
         for (number, word) in numbers.iter_mut().zip(&words) {
             *number = word.parse().ok()?;
         }
-        let ledger = u64::from_str_radix(words[8], 16).ok()?;
-        let area = u64::from_str_radix(words[9], 16).ok()?;
+        let hash = |word| u64::from_str_radix(word, 16).ok();
         Some(Verdict {
             numbers,
-            ledger,
-            area,
+            ledger: hash(words[8])?,
+            area: hash(words[9])?,
+            fields: hash(words[10])?,
         })
     }
 }
@@ -141,6 +145,11 @@ impl Verdict {
 /// The 64-bit FNV-1a hash.
 pub fn fnv_1a(bytes: &[u8]) -> u64 {
     bytes.iter().fold(0xcbf2_9ce4_8422_2325, |hash, &byte| {
-        (hash ^ u64::from(byte)).wrapping_mul(0x0100_0000_01b3)
+        mixed(hash, u64::from(byte))
     })
+}
+
+/// A step of that hash.
+pub fn mixed(hash: u64, number: u64) -> u64 {
+    (hash ^ number).wrapping_mul(0x0100_0000_01b3)
 }

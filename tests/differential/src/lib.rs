@@ -5,6 +5,7 @@ pub mod case;
 pub mod check;
 pub mod coverage;
 pub mod driver;
+pub mod fields;
 pub mod generate;
 pub mod one;
 pub mod program;

@@ -15,6 +15,11 @@ impl Random {
         random
     }
 
+    /// The generator that stands at a state.
+    pub fn at(state: u64) -> Random {
+        Random { state }
+    }
+
     /// The splitmix64 step.
     pub fn next(&mut self) -> u64 {
         self.state = self.state.wrapping_add(0x9e37_79b9_7f4a_7c15);
