@@ -14,6 +14,7 @@ CFLAGS ?= -O2 -Wall -Wextra -Wpedantic
 PROVED := target/staticlib/libtuulveski.a
 LIBRARY ?= $(PROVED)
 
+HEADERS := tuulveski.h tuulveski_words.h tuulveski_chart.h
 BUILT := target/command
 COMMAND := $(BUILT)/tuulveski
 OBJECTS := $(patsubst command/%.c,$(BUILT)/%.o,$(sort $(wildcard command/*.c)))
@@ -58,15 +59,15 @@ install: all
 	$(if $(filter /%,$(PREFIX)),,$(error PREFIX is to be a path from the root))
 	install -d '$(TO)/bin' '$(TO)/include' '$(TO)/lib/pkgconfig' '$(TO)/share/man/man1'
 	install -m 755 $(COMMAND) '$(TO)/bin/tuulveski'
-	install -m 644 include/tuulveski.h include/tuulveski_words.h '$(TO)/include'
+	install -m 644 $(addprefix include/,$(HEADERS)) '$(TO)/include'
 	install -m 644 $(LIBRARY) '$(TO)/lib/libtuulveski.a'
 	sed -e '/^#/d' -e 's|@prefix@|$(PREFIX)|' -e 's|@version@|$(VERSION)|' tuulveski.pc.in >$(BUILT)/tuulveski.pc
 	install -m 644 $(BUILT)/tuulveski.pc '$(TO)/lib/pkgconfig/tuulveski.pc'
 	install -m 644 command/tuulveski.1 '$(TO)/share/man/man1/tuulveski.1'
 
 uninstall:
-	rm -f '$(TO)/bin/tuulveski' '$(TO)/include/tuulveski.h' '$(TO)/include/tuulveski_words.h' '$(TO)/lib/libtuulveski.a' \
-	    '$(TO)/lib/pkgconfig/tuulveski.pc' '$(TO)/share/man/man1/tuulveski.1'
+	rm -f '$(TO)/bin/tuulveski' '$(TO)/lib/libtuulveski.a' '$(TO)/lib/pkgconfig/tuulveski.pc' '$(TO)/share/man/man1/tuulveski.1'
+	for header in $(HEADERS); do rm -f '$(TO)'/include/$$header || exit 1; done
 
 clean:
 	rm -rf $(BUILT)

@@ -1,8 +1,13 @@
-/* What count.c and stack.c lend to the check: the files of a folder, and an area for findings. */
+/* What count.c and stack.c lend to the library: the files of a folder, a prefix and a batch number, and an area for findings or for a file. */
 #include <stdint.h>
 #include <stdio.h>
 #include <stdlib.h>
 #include <string.h>
+
+#define PREFIX ((const uint8_t *)"10")
+#define PREFIX_LEN 2
+#define BATCH ((const uint8_t *)"000001")
+#define BATCH_LEN 6
 
 struct bytes {
     uint8_t *at;
@@ -32,8 +37,8 @@ static struct bytes contents(const char *folder, const char *name) {
 /* An area of so many bytes as a word says, each 0xEE. */
 static struct bytes area(const char *word) {
     size_t len = strtoul(word, NULL, 10);
-    struct bytes findings = {malloc(len + 1), len};
-    if (!findings.at) stop("findings", "no memory");
-    memset(findings.at, 0xEE, len);
-    return findings;
+    struct bytes lent = {malloc(len + 1), len};
+    if (!lent.at) stop("area", "no memory");
+    memset(lent.at, 0xEE, len);
+    return lent;
 }

@@ -41,9 +41,9 @@ static bool check_file(struct check *check, const char *name, int *status)
 static int check_files(struct check *check)
 {
     int highest = DONE;
-    for (int i = 0; i < check->options->count; i++) {
+    for (int i = 0; i < check->options->files.count; i++) {
         int status;
-        if (!check_file(check, check->options->files[i], &status))
+        if (!check_file(check, check->options->files.at[i], &status))
             return FAILED;
         if (status > highest)
             highest = status;

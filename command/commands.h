@@ -4,6 +4,7 @@
 
 int command_check(int count, char **words);
 int command_submit(int count, char **words);
+int command_write(int count, char **words);
 int command_ledger(int count, char **words);
 int command_book(int count, char **words);
 

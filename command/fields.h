@@ -5,6 +5,8 @@
 enum {
     RECORD_TYPE = 1,
     RECORD_NUMBER = 2,
+    IH_PREFIX = 2,
+    IH_BATCH = 3,
     ULI = 3,
     IP_BIRTH = 25,
     II_TYPE = 4,

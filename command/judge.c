@@ -1,16 +1,14 @@
-#define _POSIX_C_SOURCE 200809L
 #include "judge.h"
 
 #include "book_form.h"
 #include "ledger_form.h"
 #include "say.h"
+#include "stack.h"
 
-#include <pthread.h>
 #include <stdlib.h>
 #include <string.h>
 
-/* The check takes up to 3.5 MB of stack, which `ulimit -s` may not leave to the first thread. */
-enum { STACK_BYTES = 8 * 1024 * 1024, FIRST_FINDINGS = 100000 };
+enum { FIRST_FINDINGS = 100000 };
 
 struct call {
     uint32_t today;
@@ -27,24 +25,6 @@ static void *run(void *with)
     return NULL;
 }
 
-static bool run_on_thread(struct call *call)
-{
-    pthread_t thread;
-    pthread_attr_t form;
-    int fault = pthread_attr_init(&form);
-    if (fault == 0) {
-        fault = pthread_attr_setstacksize(&form, STACK_BYTES);
-        if (fault == 0)
-            fault = pthread_create(&thread, &form, run, call);
-        pthread_attr_destroy(&form);
-    }
-    if (fault == 0)
-        fault = pthread_join(thread, NULL);
-    if (fault != 0)
-        say("the check could not be started on a thread of its own: %s", strerror(fault));
-    return fault == 0;
-}
-
 static bool run_with_room(struct call *call, size_t findings)
 {
     call->findings->at = malloc(findings * TUULVESKI_FINDING_BYTES);
@@ -53,7 +33,7 @@ static bool run_with_room(struct call *call, size_t findings)
         return false;
     }
     call->findings->len = findings * TUULVESKI_FINDING_BYTES;
-    if (run_on_thread(call))
+    if (run_on_own_stack(run, call))
         return true;
     free_bytes(call->findings);
     return false;

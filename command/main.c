@@ -15,7 +15,10 @@ static int run(const char *name, int count, char **words)
     static const struct {
         const char *name;
         int (*run)(int count, char **words);
-    } COMMANDS[] = {{"check", command_check}, {"submit", command_submit}, {"ledger", command_ledger}, {"book", command_book}};
+    } COMMANDS[] = {
+        {"check", command_check},   {"submit", command_submit}, {"write", command_write},
+        {"ledger", command_ledger}, {"book", command_book},
+    };
     if (strcmp(name, "--help") == 0 || strcmp(name, "-h") == 0 || strcmp(name, "help") == 0)
         return give_help(USAGE);
     if (strcmp(name, "--version") == 0)

@@ -2,6 +2,7 @@
 #ifndef OPTIONS_H
 #define OPTIONS_H
 
+#include "option_words.h"
 #include "telling.h"
 
 enum { WAIT_MOST = 86400, WAIT_USUALLY = 60 };
@@ -13,11 +14,8 @@ struct options {
     bool creates;   /* --create: where there is no ledger, one of so many slots is made */
     uint32_t slots;
     uint32_t wait; /* for another process that holds the ledger, in seconds */
-    char **files;
-    int count; /* of the files, 1 or more */
+    struct operands files; /* 1 or more */
 };
-
-enum parsed { PARSED, ASKED_FOR_HELP, NOT_UNDERSTOOD };
 
 /* Reads the words after a command's name, which is words[0]. The names of the files are moved to the front of the words. What is not
  * understood is said. */

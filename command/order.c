@@ -30,12 +30,16 @@ void add_record(struct text *message, uint32_t record)
     add(message, ")");
 }
 
-static void add_followers(struct text *message, uint32_t above)
+/* A list may end with the footer, which is no record of a chart. */
+static void add_followers(struct text *message, uint32_t above, bool within_chart)
 {
     const uint32_t *list = followers(above);
-    for (size_t i = 0; list[i] != 0; i++) {
+    size_t count = 0;
+    while (list[count] != 0 && !(within_chart && list[count] == TUULVESKI_IF))
+        count++;
+    for (size_t i = 0; i < count; i++) {
         if (i > 0)
-            add(message, list[i + 1] == 0 ? " or " : ", ");
+            add(message, i + 1 == count ? " or " : ", ");
         add_record(message, list[i]);
     }
 }
@@ -56,7 +60,7 @@ void explain_place(struct text *message, uint32_t record, uint32_t above)
         return;
     }
     add(message, "; ");
-    add_followers(message, above);
+    add_followers(message, above, false);
     add(message, " would be right");
 }
 
@@ -70,6 +74,39 @@ void explain_end(struct text *message, uint32_t above)
         add_record(message, above);
     }
     add(message, "; ");
-    add_followers(message, above);
+    add_followers(message, above, false);
+    add(message, " would be right there");
+}
+
+bool may_follow_in_chart(uint32_t record, uint32_t above)
+{
+    const uint32_t *list = followers(above);
+    while (*list != 0 && *list != record)
+        list++;
+    return *list == record;
+}
+
+void explain_chart_place(struct text *message, uint32_t record, uint32_t above)
+{
+    add(message, tuulveski_cause_text(TUULVESKI_CAUSE_PLACE));
+    add(message, ": ");
+    add_record(message, record);
+    if (above == TUULVESKI_IH) {
+        add(message, " at the start of the chart");
+    } else {
+        add(message, " after ");
+        add_record(message, above);
+    }
+    add(message, "; ");
+    add_followers(message, above, true);
+    add(message, " would be right");
+}
+
+void explain_chart_end(struct text *message, uint32_t above)
+{
+    add(message, "the chart ends after ");
+    add_record(message, above);
+    add(message, "; ");
+    add_followers(message, above, true);
     add(message, " would be right there");
 }

@@ -1,13 +1,14 @@
 #include "shape.h"
 
 #include "fields.h"
+#include "odd_byte.h"
 #include "order.h"
 #include "tuulveski_words.h"
 #include "walk.h"
 
 #include <string.h>
 
-enum { PRINTABLE_LEAST = 32, PRINTABLE_MOST = 126, MARK_BYTES = 3, UTF16_MARK = 0xFE, TAB = 9 };
+enum { MARK_BYTES = 3, UTF16_MARK = 0xFE };
 
 /* A line without its end. */
 struct line {
@@ -55,35 +56,21 @@ static void explain_no_end(struct fault *fault, const struct line *line)
     add(&fault->message, "; every line ends with LF or CR LF, the last one too");
 }
 
-static void add_hex(struct text *message, uint8_t byte)
-{
-    static const char DIGITS[] = "0123456789ABCDEF";
-    const uint8_t hex[] = {'0', 'x', (uint8_t)DIGITS[byte >> 4], (uint8_t)DIGITS[byte & 0xF]};
-    add_bytes(message, hex, sizeof hex);
-}
-
-/* What a byte often comes from. */
-static const char *name_of_byte(const struct line *line, size_t at, bool is_first_line)
+/* What a byte often comes from; at the start of a file, what it says of the whole. */
+static const char *name_at(const struct line *line, size_t at, bool is_first_line)
 {
     static const uint8_t MARK[MARK_BYTES] = {0xEF, 0xBB, 0xBF};
     if (is_first_line && at == 0 && line->text.len >= MARK_BYTES && memcmp(line->text.at, MARK, MARK_BYTES) == 0)
         return " (a byte order mark)";
     if (is_first_line && at == 0 && line->text.at[at] >= UTF16_MARK)
         return " (of a file in UTF-16)";
-    switch (line->text.at[at]) {
-    case TAB:
-        return " (a tab)";
-    case '\r':
-        return " (a carriage return, CR)";
-    default:
-        return line->text.at[at] > PRINTABLE_MOST + 1 ? " (of a letter with an accent, or the like)" : "";
-    }
+    return name_of_byte(line->text.at[at]);
 }
 
 static void explain_byte(struct fault *fault, const struct line *line, bool is_first_line)
 {
     size_t at = 0, unused;
-    while (at < line->text.len && line->text.at[at] >= PRINTABLE_LEAST && line->text.at[at] <= PRINTABLE_MOST)
+    while (at < line->text.len && is_printable(line->text.at[at]))
         at++;
     fault->column = at + 1;
     add(&fault->message, tuulveski_cause_text(TUULVESKI_CAUSE_BYTE));
@@ -93,7 +80,7 @@ static void explain_byte(struct fault *fault, const struct line *line, bool is_f
     size_t field = count_pipes(before, 0, &unused) + 1;
     add(&fault->message, ": byte ");
     add_hex(&fault->message, line->text.at[at]);
-    add(&fault->message, name_of_byte(line, at, is_first_line));
+    add(&fault->message, name_at(line, at, is_first_line));
     if (field <= tuulveski_record_fields(line->record)) {
         add(&fault->message, " in ");
         add(&fault->message, tuulveski_record_type(line->record));

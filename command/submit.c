@@ -109,12 +109,12 @@ static int submit_files(struct submit *submit)
 {
     const struct options *options = submit->options;
     int highest = DONE;
-    for (int i = 0; i < options->count && highest < FAILED; i++) {
-        int status = submit_file(submit, options->files[i]);
+    for (int i = 0; i < options->files.count && highest < FAILED; i++) {
+        int status = submit_file(submit, options->files.at[i]);
         if (status > highest)
             highest = status;
-        if (status == FAILED && i + 1 < options->count)
-            say("%s and what comes after it: not submitted", options->files[i + 1]);
+        if (status == FAILED && i + 1 < options->files.count)
+            say("%s and what comes after it: not submitted", options->files.at[i + 1]);
     }
     return highest;
 }

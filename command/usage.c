@@ -6,10 +6,12 @@
 #include <stdio.h>
 
 const char USAGE[] =
-    "Tuulveski checks immunization submissions (guideline 7.2) before a clinic sends them to the registry.\n"
+    "Tuulveski checks immunization submissions (guideline 7.2) before a clinic sends them to the registry, and writes\n"
+    "them from chart records.\n"
     "\n"
     "  tuulveski check   --book BOOK --ledger LEDGER FILE..   tells what is wrong with files; writes nothing\n"
     "  tuulveski submit  --book BOOK --ledger LEDGER FILE..   the same, and keeps the ledger of each accepted file\n"
+    "  tuulveski write   --prefix PREFIX --batch BATCH CHART  writes a file from chart records\n"
     "  tuulveski ledger  ..                                   makes, grows, fills and shows ledgers\n"
     "  tuulveski book    ..                                   makes and shows code books\n"
     "  tuulveski --help, tuulveski COMMAND --help             this help, and that of a command\n"
@@ -45,6 +47,24 @@ const char USAGE_OF_SUBMIT[] =
     "  -w, --wait SECONDS    how long to wait for another process that holds the ledger; 60 if it is not given\n"
     "\n"
     "The exit status is 0 if all files are accepted, 1 if one is refused, 2 if one could not be checked or kept.\n";
+
+const char USAGE_OF_WRITE[] =
+    "tuulveski write --prefix PREFIX --batch BATCH [--output FILE] [--] CHART\n"
+    "\n"
+    "Writes a submission from the records of CHART (- is standard input), a file of chart records as a charting\n"
+    "product exports them: tuulveski.h has their bytes. The lots of one event are brought together under their\n"
+    "patient record, and all records are numbered. Nothing is judged but the form of the chart: check the file\n"
+    "before it is sent.\n"
+    "\n"
+    "  -p, --prefix PREFIX   the submitter prefix, 1 to 3 letters or digits\n"
+    "  -n, --batch BATCH     the batch number, 1 to 10 letters or digits\n"
+    "  -o, --output FILE     where the submission goes: whole or not at all, and never over a file that is there;\n"
+    "                        to standard output without this option, and where FILE is -\n"
+    "\n"
+    "How many patients, immunizations and not-immunized records it has goes to standard error.\n"
+    "\n"
+    "The exit status is 0 if the submission is written, 1 if chart, prefix or batch number are refused, 2 if it could\n"
+    "not be done.\n";
 
 int give_help(const char *text)
 {

@@ -2,7 +2,7 @@
 #ifndef USAGE_H
 #define USAGE_H
 
-extern const char USAGE[], USAGE_OF_CHECK[], USAGE_OF_SUBMIT[];
+extern const char USAGE[], USAGE_OF_CHECK[], USAGE_OF_SUBMIT[], USAGE_OF_WRITE[];
 
 /* Writes a text to standard output, and gives back the exit status. */
 int give_help(const char *text);

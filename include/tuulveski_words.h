@@ -20,7 +20,7 @@
 
 /* Records, causes and rules count from 1, answers from 0. */
 #define TUULVESKI_RECORDS 8
-#define TUULVESKI_ANSWERS 8
+#define TUULVESKI_ANSWERS 10
 #define TUULVESKI_CAUSES 7
 #define TUULVESKI_RULES 18
 
@@ -189,7 +189,7 @@ static inline uint32_t tuulveski_field_needed(uint32_t record, uint32_t field)
 /* "ACCEPTED" */
 static inline const char *tuulveski_answer_name(uint32_t answer)
 {
-    static const char *const names[] = {"ACCEPTED", "DATE", "LONG", "BOOK", "LEDGER", "SHAPE", "FINDINGS", "FULL"};
+    static const char *const names[] = {"ACCEPTED", "DATE", "LONG", "BOOK", "LEDGER", "SHAPE", "FINDINGS", "FULL", "RECORD", "ROOM"};
     return tuulveski_word(names, sizeof names / sizeof *names, answer);
 }
 
@@ -205,6 +205,8 @@ static inline const char *tuulveski_answer_text(uint32_t answer)
         "a line is not a record of the right shape in the right place",
         "the shape is right, but records break rules",
         "nothing is wrong, but the ledger has too few slots for the events that would be live",
+        "the chart is malformed, or the prefix or the batch number is not of its form",
+        "the finished file would be longer than the room for it, or than 5,000,000 bytes",
     };
     return tuulveski_word(texts, sizeof texts / sizeof *texts, answer);
 }

@@ -1,20 +1,23 @@
-//! Measures the product's check against the independent implementation of
-//! tests/differential, both in this process, and prints the tables in Markdown.
+//! Measures the product's check and its writer against the independent implementation
+//! of tests/differential, both in this process, and prints the tables in Markdown.
 //!
 //! `bench [--quick | --limits] [--only WORD] [--limit SECONDS] [--date DATE] [--product NAME]`:
-//! quick is two small sizes and one run; limits holds the families with long lists to
-//! their limits; WORD leaves only the families whose names have it; a size that is
+//! quick is two small sizes and one run; limits holds the families with long lists and
+//! those of the writer to their limits; WORD leaves only the families whose names have it; a size that is
 //! expected to take longer than the limit is left out; the page says the date, and
 //! NAME for the product's version.
 
 mod clock;
 mod limits;
 mod measure;
+mod page;
 mod product;
 mod table;
 
+use bench::chart_families::{self, ChartFamily};
 use bench::families::{self, Family};
 use bench::world::Size;
+use differential::write::WRITTEN;
 use measure::Times;
 use std::process::ExitCode;
 use std::time::Duration;
@@ -99,31 +102,75 @@ fn plan() -> Option<Plan> {
     Some(plan)
 }
 
-/// The tables; or the family, the size and the difference of the two checks.
+/// The tables; or the family, the size and the difference of the two sides.
 fn report(plan: &Plan) -> Result<Report, String> {
-    let families = families::all();
-    let rows: Result<Vec<Row>, String> = families
+    let is_asked = |name: &str| name.contains(&plan.only);
+    let checks = families::all()
         .into_iter()
-        .filter(|family| family.name.contains(&plan.only))
+        .filter(|family| is_asked(family.name))
         .filter(|family| family.has_lists || !plan.is_of_limits)
-        .map(|family| row(plan, family))
-        .collect();
-    let rows = rows?;
+        .map(|family| checks_row(plan, &family));
+    let checks: Vec<Row> = checks.collect::<Result<_, String>>()?;
+    let writings = chart_families::all()
+        .into_iter()
+        .filter(|family| is_asked(family.name))
+        .map(|family| writings_row(plan, &family));
+    let writings: Vec<Row> = writings.collect::<Result<_, String>>()?;
     if plan.is_of_limits {
+        let over = |rows: &[Row], limits| -> Vec<String> {
+            rows.iter()
+                .flat_map(|row| limits::over(row, limits))
+                .collect()
+        };
         return Ok(Report {
-            text: limits::table(&rows),
-            over: rows.iter().flat_map(limits::over).collect(),
+            text: limits::table(&checks) + "\n" + &limits::table(&writings),
+            over: [
+                over(&checks, &limits::OF_LISTS),
+                over(&writings, &limits::OF_WRITER),
+            ]
+            .concat(),
         });
     }
-    let smallest = families::smallest();
-    let call = measure::measure_call(&smallest, SMALL_RUNS)?;
+    let mut text = String::new();
+    if !checks.is_empty() {
+        let smallest = families::smallest();
+        let call = measure::measure_call(&smallest, SMALL_RUNS)?;
+        text += &page::checks(plan, &checks, smallest.book.len(), &call);
+    }
+    if !writings.is_empty() {
+        text += &page::writings(plan, &writings);
+    }
     Ok(Report {
-        text: page(plan, &rows, smallest.book.len(), &call),
+        text,
         over: Vec::new(),
     })
 }
 
-fn row(plan: &Plan, family: Family) -> Result<Row, String> {
+fn checks_row(plan: &Plan, family: &Family) -> Result<Row, String> {
+    let times = |size| measure::measure(&family.case(size), plan.runs);
+    Ok(Row {
+        name: family.name,
+        about: family.about,
+        sizes: sizes(plan, family.name, family.answer, times)?,
+    })
+}
+
+fn writings_row(plan: &Plan, family: &ChartFamily) -> Result<Row, String> {
+    let times = |size| measure::measure_writing(&family.case(size), plan.runs);
+    Ok(Row {
+        name: family.name,
+        about: family.about,
+        sizes: sizes(plan, family.name, WRITTEN, times)?,
+    })
+}
+
+/// The times at each size, and none for those that are expected to take too long.
+fn sizes(
+    plan: &Plan,
+    name: &str,
+    answer: u32,
+    times: impl Fn(Size) -> Result<Times, String>,
+) -> Result<Vec<(Size, Option<Times>)>, String> {
     let mut sizes: Vec<(Size, Option<Times>)> = Vec::new();
     for size in plan.sizes.iter().map(|&parts| Size { parts }) {
         let is_short = match sizes.last() {
@@ -131,83 +178,26 @@ fn row(plan: &Plan, family: Family) -> Result<Row, String> {
             Some((_, None)) => false,
             Some((before, Some(times))) => expected(times, *before, size) <= plan.limit,
         };
-        let times = match is_short {
-            true => Some(times(plan, &family, size)?),
-            false => None,
-        };
-        sizes.push((size, times));
+        if !is_short {
+            sizes.push((size, None));
+            continue;
+        }
+        let place = format!("{name}, {}", size.name());
+        let times = times(size).map_err(|difference| format!("{place}: {difference}"))?;
+        eprintln!(
+            "{place}: {}, {:?} and {:?}",
+            times.said, times.product, times.independent
+        );
+        if times.answer != answer {
+            return Err(format!("{place}: answer {answer} was meant"));
+        }
+        sizes.push((size, Some(times)));
     }
-    Ok(Row { family, sizes })
+    Ok(sizes)
 }
 
 /// At most this, if the time grows with the square of the size.
 fn expected(times: &Times, before: Size, size: Size) -> Duration {
     let growth = (before.parts / size.parts) as u32;
     growth * growth * times.product.max(times.independent)
-}
-
-fn times(plan: &Plan, family: &Family, size: Size) -> Result<Times, String> {
-    let place = format!("{}, {}", family.name, size.name());
-    let times = measure::measure(&family.case(size), plan.runs)
-        .map_err(|difference| format!("{place}: {difference}"))?;
-    eprintln!(
-        "{place}: {:?}, {:?} and {:?}",
-        times.answer.numbers(),
-        times.product,
-        times.independent
-    );
-    if times.answer.answer != family.answer {
-        return Err(format!("{place}: answer {} was meant", family.answer));
-    }
-    Ok(times)
-}
-
-fn page(plan: &Plan, rows: &[Row], book: usize, call: &Times) -> String {
-    format!(
-        "# Speed\n\n\
-        The check against the independent Rust implementation of `tests/differential`, both x86-64, in one process and one\n\
-        run. `bench/run` measures and writes this page; `bench/run --quick` tries it on small files and writes nothing.\n\n\
-        Measured on {date}, the product at {product}: {machine}.\n\n\
-        Full size is a file of 5,000,000 bytes (fewer where the records are at their highest number, 99,999), a book of about\n\
-        200 KB and a ledger of 100,000 slots, 60% of them live (40% for one patient); a part of it has a part of each. Each\n\
-        time is the processor time of the check alone, without the filling of ledger and findings area: the median of up to {runs}\n\
-        runs, fewer where one takes seconds. For every run the two answers, ledgers and areas were compared, byte for byte,\n\
-        and were the same. A dash: left out, for it would take over {limit} s.\n\n\
-        {families}\n\
-        ## At the largest size\n\n\
-        The ratio is the product's time over the other's. Growth is the time for a byte of the file at the largest size over\n\
-        that at the smallest: 1 where the time is in proportion to the size.\n\n\
-        {ratios}\n\
-        ## At each size\n\n\
-        Milliseconds, the product's / the independent implementation's.\n\n\
-        {sizes}\n\
-        A call on a file of {bytes} bytes, a book of {book} and a ledger of none: {product_call:.2} µs; the independent implementation's\n\
-        {independent_call:.2}. Medians of {small_runs} runs of {calls} calls.\n",
-        date = plan.date,
-        product = plan.product,
-        machine = machine(),
-        runs = plan.runs,
-        limit = plan.limit.as_secs(),
-        families = table::families(rows),
-        ratios = table::ratios(rows),
-        sizes = table::sizes(rows),
-        bytes = call.bytes,
-        book = book,
-        product_call = call.product.as_secs_f64() * 1e6,
-        independent_call = call.independent.as_secs_f64() * 1e6,
-        small_runs = SMALL_RUNS,
-        calls = measure::CALLS,
-    )
-}
-
-/// The processor as the system names it.
-fn machine() -> String {
-    let about = std::fs::read_to_string("/proc/cpuinfo").unwrap_or_default();
-    let names: Vec<&str> = about
-        .lines()
-        .filter(|line| line.starts_with("model name"))
-        .filter_map(|line| line.split(": ").nth(1))
-        .collect();
-    let name = names.first().unwrap_or(&"a processor without a name");
-    format!("{name}, {} cores, {}", names.len(), std::env::consts::ARCH)
 }

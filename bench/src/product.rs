@@ -1,6 +1,7 @@
-//! The product's check, over its C interface.
+//! The product's check and its writer, over its C interface.
 
 use differential::check::Answer;
+use differential::write::Written;
 
 #[repr(C)]
 struct Numbers {
@@ -12,6 +13,12 @@ struct Numbers {
     changed: u32,
     deleted: u32,
     not_immunized: u32,
+}
+
+#[repr(C)]
+struct WrittenNumbers {
+    answer: u32,
+    length: u32,
 }
 
 #[link(name = "tuulveski", kind = "static")]
@@ -27,6 +34,17 @@ extern "C" {
         findings: *mut u8,
         findings_len: usize,
     ) -> Numbers;
+
+    fn tuulveski_write(
+        prefix: *const u8,
+        prefix_len: usize,
+        batch: *const u8,
+        batch_len: usize,
+        chart: *const u8,
+        chart_len: usize,
+        out: *mut u8,
+        out_len: usize,
+    ) -> WrittenNumbers;
 }
 
 pub fn check(
@@ -60,5 +78,26 @@ pub fn check(
         changed: numbers.changed,
         deleted: numbers.deleted,
         not_immunized: numbers.not_immunized,
+    }
+}
+
+pub fn write(prefix: &[u8], batch: &[u8], chart: &[u8], out: &mut [u8]) -> Written {
+    // SAFETY: each pointer comes with the length of its own slice, and the area that
+    // may be written is borrowed alone.
+    let numbers = unsafe {
+        tuulveski_write(
+            prefix.as_ptr(),
+            prefix.len(),
+            batch.as_ptr(),
+            batch.len(),
+            chart.as_ptr(),
+            chart.len(),
+            out.as_mut_ptr(),
+            out.len(),
+        )
+    };
+    Written {
+        answer: numbers.answer,
+        length: numbers.length,
     }
 }

@@ -1,7 +1,6 @@
 //! The tables of times, in Markdown.
 
 use crate::measure::Times;
-use bench::families::Family;
 use bench::world::Size;
 use differential::check::{Answer, FINDINGS};
 use std::time::Duration;
@@ -9,24 +8,26 @@ use std::time::Duration;
 /// A family with its times, the smallest size first; none for a size that was
 /// left out.
 pub struct Row {
-    pub family: Family,
+    pub name: &'static str,
+    /// What is in its inputs.
+    pub about: &'static str,
     pub sizes: Vec<(Size, Option<Times>)>,
 }
 
 /// What stands for a time that was not taken.
 pub const NONE: &str = "-";
 
-/// Each family's files, and what both checks say of the largest.
-pub fn families(rows: &[Row]) -> String {
+/// Each family's inputs, and what both sides say of the largest, under these heads.
+pub fn families(rows: &[Row], heads: [&str; 2]) -> String {
     let lines = rows.iter().map(|row| {
         let largest = row.sizes.iter().rev().find_map(|(_, times)| times.as_ref());
         vec![
-            row.family.name.to_string(),
-            row.family.about.to_string(),
-            largest.map_or(NONE.to_string(), |times| said(&times.answer)),
+            row.name.to_string(),
+            row.about.to_string(),
+            largest.map_or(NONE.to_string(), |times| times.said.clone()),
         ]
     });
-    table(&["family", "its files", "the answer to the largest"], lines)
+    table(&["family", heads[0], heads[1]], lines)
 }
 
 /// The times of the largest size, and how the time for a byte grows up to it.
@@ -34,7 +35,7 @@ pub fn ratios(rows: &[Row]) -> String {
     let lines = rows.iter().map(|row| {
         let first = row.sizes.first().and_then(|(_, times)| times.as_ref());
         let last = row.sizes.last().and_then(|(_, times)| times.as_ref());
-        let mut cells = vec![row.family.name.to_string()];
+        let mut cells = vec![row.name.to_string()];
         cells.extend(last_cells(last));
         cells.extend(growth_cells(first, last, |times| times.product));
         cells.extend(growth_cells(first, last, |times| times.independent));
@@ -69,9 +70,7 @@ pub fn sizes(rows: &[Row]) -> String {
             Some(times) => format!("{} / {}", ms(times.product), ms(times.independent)),
             None => NONE.to_string(),
         });
-        std::iter::once(row.family.name.to_string())
-            .chain(times)
-            .collect()
+        std::iter::once(row.name.to_string()).chain(times).collect()
     });
     table(&head, lines)
 }
@@ -126,7 +125,7 @@ pub fn grouped(digits: &str) -> String {
     groups.join(",")
 }
 
-fn said(answer: &Answer) -> String {
+pub fn said(answer: &Answer) -> String {
     if answer.answer == FINDINGS {
         return format!("{} findings", grouped(&answer.findings.to_string()));
     }
@@ -142,6 +141,11 @@ fn said(answer: &Answer) -> String {
         .map(|(number, name)| format!("{} {name}", grouped(&number.to_string())))
         .collect();
     format!("accepted: {}", parts.join(", "))
+}
+
+pub fn written(lines: usize, chart: usize) -> String {
+    let (lines, chart) = (lines.to_string(), chart.to_string());
+    format!("{} lines from {} bytes", grouped(&lines), grouped(&chart))
 }
 
 pub fn table(head: &[&str], lines: impl Iterator<Item = Vec<String>>) -> String {

@@ -1,9 +1,13 @@
-/* The batch program of the outside tests: a stream of cases in, a line for each out.
+/* The batch program of the outside tests: a stream of cases in, a line for each out. Every number of a stream has four bytes, the lowest
+ * first, and bytes come behind their length. Lent areas are filled with 0xEE before a call. Hashes are 64-bit FNV-1a, in hex.
  *
- * A case is today; the file, the book and the ledger, each as its length and its bytes; the length of the findings area. Every number has four
- * bytes, the lowest first. The area is filled with 0xEE before the check. A line is the eight numbers of the answer, and the 64-bit FNV-1a
- * hashes of the ledger after and of the area after, and of what the readers of fields say of the file, in hex
- * (tests/differential/README.md says what they are asked).
+ * batch            the check. A case is today; the file, the book and the ledger; the length of the findings area. A line is the eight
+ *                  numbers of the answer, and hashes of the ledger after, of the area after, and of what the readers of fields say of
+ *                  the file (tests/differential/README.md says what they are asked).
+ * batch --write    the writer, and the check of what it writes. A case is today; the prefix, the batch number, the chart, the book and
+ *                  the ledger; the length of the lent area. A line is the answer and the length, a hash of the area after, the eight
+ *                  numbers that the check answers on the file, and hashes of the ledger and of a findings area of 600 bytes after it.
+ *                  Where nothing is written, the check is not called, and its numbers are 0.
  */
 #include <inttypes.h>
 #include <stdio.h>
@@ -11,6 +15,11 @@
 #include <string.h>
 
 #include "tuulveski.h"
+
+#ifdef SLIP
+#include "slips.h"
+#define tuulveski_write slipped_write
+#endif
 
 /* Bytes lent to the check, each area in a block of its own, so that a tool that watches memory sees an access outside it. */
 struct bytes {
@@ -130,21 +139,59 @@ static uint64_t fields(struct bytes file) {
     return a.said;
 }
 
-int main(void) {
-    uint32_t today, len;
-    while (number(&today)) {
-        struct bytes file = part(), book = part(), ledger = part();
-        if (!number(&len)) stop("the stream ends inside a case");
-        struct bytes area = room(len);
-        memset(area.at, 0xEE, area.len);
-        tuulveski_answer a =
-            tuulveski_check(today, file.at, file.len, book.at, book.len, ledger.at, ledger.len, area.at, area.len);
-        printf("%" PRIu32 " %" PRIu32 " %" PRIu32 " %" PRIu32 " %" PRIu32 " %" PRIu32 " %" PRIu32 " %" PRIu32 " %016" PRIx64 " %016" PRIx64 " %016" PRIx64 "\n",
-               a.answer, a.line, a.cause, a.findings, a.added, a.changed, a.deleted, a.not_immunized, hash(ledger), hash(area), fields(file));
-        free(file.at);
-        free(book.at);
-        free(ledger.at);
-        free(area.at);
-    }
+/* The last part of a case: the length of an area. */
+static struct bytes area(void) {
+    uint32_t len;
+    if (!number(&len)) stop("the stream ends inside a case");
+    struct bytes r = room(len);
+    memset(r.at, 0xEE, r.len);
+    return r;
+}
+
+static void print_answer(tuulveski_answer a) {
+    printf("%" PRIu32 " %" PRIu32 " %" PRIu32 " %" PRIu32 " %" PRIu32 " %" PRIu32 " %" PRIu32 " %" PRIu32, a.answer, a.line, a.cause, a.findings,
+           a.added, a.changed, a.deleted, a.not_immunized);
+}
+
+static tuulveski_answer check(uint32_t today, struct bytes file, struct bytes book, struct bytes ledger, struct bytes findings) {
+    return tuulveski_check(today, file.at, file.len, book.at, book.len, ledger.at, ledger.len, findings.at, findings.len);
+}
+
+static void check_case(uint32_t today) {
+    struct bytes file = part(), book = part(), ledger = part(), findings = area();
+    print_answer(check(today, file, book, ledger, findings));
+    printf(" %016" PRIx64 " %016" PRIx64 " %016" PRIx64 "\n", hash(ledger), hash(findings), fields(file));
+    free(file.at);
+    free(book.at);
+    free(ledger.at);
+    free(findings.at);
+}
+
+static void write_case(uint32_t today) {
+    struct bytes prefix = part(), batch = part(), chart = part(), book = part(), ledger = part(), out = area();
+    uint8_t found[600];
+    struct bytes findings = {found, sizeof found};
+    memset(found, 0xEE, sizeof found);
+    tuulveski_written w =
+        tuulveski_write(prefix.at, prefix.len, batch.at, batch.len, chart.at, chart.len, out.at, out.len);
+    printf("%" PRIu32 " %" PRIu32 " %016" PRIx64 " ", w.answer, w.length, hash(out));
+    tuulveski_answer a = {0, 0, 0, 0, 0, 0, 0, 0};
+    struct bytes file = {out.at, w.length < out.len ? w.length : out.len};
+    if (w.answer == 0) a = check(today, file, book, ledger, findings);
+    print_answer(a);
+    printf(" %016" PRIx64 " %016" PRIx64 "\n", hash(ledger), hash(findings));
+    free(prefix.at);
+    free(batch.at);
+    free(chart.at);
+    free(book.at);
+    free(ledger.at);
+    free(out.at);
+}
+
+int main(int count, char **words) {
+    uint32_t today;
+    int is_write = count == 2 && !strcmp(words[1], "--write");
+    if (count > 1 && !is_write) stop("batch [--write]");
+    while (number(&today)) (is_write ? write_case : check_case)(today);
     return 0;
 }

@@ -1,4 +1,4 @@
-"""Small submissions for the tests of the command: one new event each, by document 01's File E and Book E."""
+"""Small submissions for the tests of the command, and the charts that give them: one new event each, by document 01's File E and Book E."""
 
 TODAY = "20220930"
 
@@ -23,6 +23,16 @@ def submission(uli, date):
             b"IP|1|" + uli + b"|||||SMITH|JOHN||||||||||||||||20150301|||",
             b"II|2|" + uli + b"|A||" + date + b"||TESTV|LA|IM|50|0.5|ML|GSK|L1||||||||",
             b"IE|3|" + uli + b"|TESTA|1|",
-            b"IF|5|0|",
+            b"IF|6|0|",
         )
     )
+
+
+def chart(uli, date):
+    """The chart records of that submission: kind, then the fields from field 3 on in their printed lengths."""
+    return b"".join((
+        b"\x01" + uli + b" " * 36 + b"SMITH".ljust(50) + b"JOHN".ljust(50) + b" " * 281 + b"20150301" + b" " * 2,
+        b"\x02" + uli + b"A " + date + b" " + b"TESTV".ljust(15) + b"LA".ljust(4) + b"IM".ljust(3) + b"50" + b"0.5".ljust(9) + b"ML".ljust(4)
+        + b"GSK" + b"L1".ljust(20) + b" " * 1619,
+        b"\x03" + uli + b"TESTA".ljust(15) + b"1 ",
+    ))

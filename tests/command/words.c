@@ -29,10 +29,10 @@ int main(void)
             *tuulveski_field_form(n, 2) || tuulveski_field_needed(n, 2) || *tuulveski_field_name(TUULVESKI_IA, n) ||
             *tuulveski_field_form(TUULVESKI_IA, n) || tuulveski_field_needed(TUULVESKI_IA, n))
             printf("wrong\trecord or field %u\n", (unsigned)n);
-        if (n != 0 && (*tuulveski_answer_name(n) || *tuulveski_answer_text(n)))
+        if (n > 9 && (*tuulveski_answer_name(n) || *tuulveski_answer_text(n)))
             printf("wrong\tanswer %u\n", (unsigned)n);
         if (*tuulveski_cause_text(n) || (n != 9 && (*tuulveski_rule_name(n) || *tuulveski_rule_text(n))))
             printf("wrong\tcause or rule %u\n", (unsigned)n);
     }
-    return (*tuulveski_answer_name(8) || *tuulveski_cause_text(8)) ? 1 : 0;
+    return (*tuulveski_answer_name(10) || *tuulveski_answer_text(10) || *tuulveski_cause_text(8)) ? 1 : 0;
 }

@@ -1,17 +1,25 @@
-//! The inputs that `bench/count` counts on, and the independent check on one.
+//! The inputs that `bench/count` and `bench/stack` call on, and the independent check
+//! and writer on one.
 //!
-//! - `inputs --names` prints the families' names, a line each.
+//! - `inputs --names` prints the families' names, a line each, those of the writer last.
 //! - `inputs --write FAMILY PARTS FOLDER` writes the family's file, book and ledger
 //!   of a size, full size divided by PARTS, to the folder, and prints today, the
-//!   length of the findings area and the answer that is meant.
+//!   length of the findings area, the answer that is meant and the file's bytes. Of a
+//!   family of the writer it writes the chart, and prints `write`, the length of the
+//!   lent area, the answer that is meant and the bytes of the file to be written.
 //! - `inputs --write-smallest FOLDER` does so for the smallest file that is accepted.
 //! - `inputs --check TODAY FOLDER ROOM CALLS` checks them by the independent
-//!   implementation, 0 or 1 times, as `bench/count.c` does by the product.
+//!   implementation, 0 or 1 times, as `bench/count.c` does by the product. Where TODAY
+//!   is `write`, it writes a file from the chart.
 
+use bench::chart_families;
+use bench::charts::{BATCH, PREFIX};
 use bench::families;
 use bench::world::Size;
-use differential::case::{fnv_1a, Case, Verdict, FILL};
+use differential::case::writing::WriteCase;
+use differential::case::{fnv_1a, Case, FILL};
 use differential::check;
+use differential::write::{self, Written};
 use std::path::Path;
 use std::process::ExitCode;
 
@@ -37,22 +45,31 @@ fn main() -> ExitCode {
 fn run(words: &[&str]) -> Option<std::io::Result<()>> {
     match words {
         ["--names"] => {
-            families::all()
-                .iter()
-                .for_each(|family| println!("{}", family.name));
+            let checks = families::all().into_iter().map(|family| family.name);
+            let writings = chart_families::all().into_iter().map(|family| family.name);
+            checks.chain(writings).for_each(|name| println!("{name}"));
             Some(Ok(()))
         }
         ["--write", name, parts, folder] => {
-            let family = families::all().into_iter().find(|it| it.name == *name)?;
             let size = Size {
                 parts: parts.parse().ok()?,
             };
-            Some(write(family.case(size), family.answer, Path::new(folder)))
+            let folder = Path::new(folder);
+            if let Some(family) = chart_families::all().iter().find(|it| it.name == *name) {
+                return Some(write_chart(family.case(size), folder));
+            }
+            let family = families::all().into_iter().find(|it| it.name == *name)?;
+            Some(write(family.case(size), family.answer, folder))
         }
         ["--write-smallest", folder] => Some(write(
             families::smallest(),
             check::ACCEPTED,
             Path::new(folder),
+        )),
+        ["--check", "write", folder, room, calls] => Some(write_file(
+            Path::new(folder),
+            room.parse().ok()?,
+            *calls != "0",
         )),
         ["--check", today, folder, room, calls] => Some(check(
             today.parse().ok()?,
@@ -65,10 +82,34 @@ fn run(words: &[&str]) -> Option<std::io::Result<()>> {
 }
 
 fn write(case: Case, answer: u32, folder: &Path) -> std::io::Result<()> {
+    let bytes = case.file.len();
     std::fs::write(folder.join("file"), case.file)?;
     std::fs::write(folder.join("book"), case.book)?;
     std::fs::write(folder.join("ledger"), case.ledger)?;
-    println!("{} {} {answer}", case.today, case.room);
+    println!("{} {} {answer} {bytes}", case.today, case.room);
+    Ok(())
+}
+
+fn write_chart(case: WriteCase, folder: &Path) -> std::io::Result<()> {
+    let bytes = case.outcome().0.length;
+    std::fs::write(folder.join("chart"), case.chart)?;
+    println!("write {} {} {bytes}", case.room, write::WRITTEN);
+    Ok(())
+}
+
+fn write_file(folder: &Path, room: usize, is_called: bool) -> std::io::Result<()> {
+    let chart = std::fs::read(folder.join("chart"))?;
+    let mut area = vec![FILL; room];
+    let written = match is_called {
+        false => Written::default(),
+        true => write::write(PREFIX, BATCH, &chart, &mut area),
+    };
+    println!(
+        "{} {} {:016x}",
+        written.answer,
+        written.length,
+        fnv_1a(&area)
+    );
     Ok(())
 }
 
@@ -81,11 +122,8 @@ fn check(today: u32, folder: &Path, room: usize, is_called: bool) -> std::io::Re
         false => check::Answer::default(),
         true => check::check(today, &file, &book, &mut ledger, &mut findings),
     };
-    let verdict = Verdict {
-        numbers: answer.numbers(),
-        ledger: fnv_1a(&ledger),
-        area: fnv_1a(&findings),
-    };
-    println!("{}", verdict.line());
+    let numbers = answer.numbers().map(|number| number.to_string());
+    let (ledger, area) = (fnv_1a(&ledger), fnv_1a(&findings));
+    println!("{} {ledger:016x} {area:016x}", numbers.join(" "));
     Ok(())
 }

@@ -93,7 +93,7 @@ fn one_of_three(p: u8, a: u8, b: u8, c: u8) -> bool
 }
 
 // Whether a record of kind k may follow one of kind p, 0 being the file's start.
-pub(crate) fn may_follow(p: u8, k: u8) -> bool
+pub fn may_follow(p: u8, k: u8) -> bool
     ensures { λ r. ⌜ r ≡ follows p k ⌝ }
 {
     match k {

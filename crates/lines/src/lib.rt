@@ -13,6 +13,7 @@ pub use kinds::IN;
 pub use kinds::IP;
 pub use kinds::IV;
 pub use kinds::kind_of;
+pub use kinds::may_follow;
 pub use lines_fields::field;
 pub use lines_fields::field_position;
 pub use lines_fields::find_field;

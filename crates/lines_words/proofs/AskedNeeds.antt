@@ -1,18 +1,20 @@
 -- What each need of the questions by halving asks.
 -- Assumes nothing.
-use mathlib.Core.Path.{_≡_, refl, sym}
+use mathlib.Core.Path.{_≡_, refl, sym, _∙_}
 use mathlib.Core.Bool.{Bool, true, false}
 use mathlib.Core.List.{List}
 use Prim.Native.Nat.{ℕ, _+_, _-_, _/_, _≤_, _<_}
 use borrow.Author.Needs.{needs}
-use borrow.Author.Tests.{lt-ltb, le-ltb}
+use borrow.Author.Tests.{eq-eqb, ne-eqb, lt-ltb, le-ltb}
 use lib.ListN.{length, getD, drop}
 use Rattle.house.specs.Text.{Text, orderOf, same}
 use Rattle.house.specs.declared.Order.{Order}
 use Rattle.house.specs.declared.Order.the-variants.{Less, Same, More}
 use Rattle.house.proofs.Suffix.{drop-here, drop-past}
 use Rattle.house.proofs.SearchLaws.{Halves, halves-start, halves-end, turn-up, turn-down, turn-hit}
-use Rattle.lines_words.specs.Words.{rowBetween, hasBetween, hasKey, keysAmong}
+use Rattle.lines_words.specs.Words.{chartEvent, keyAt, rowBetween, hasBetween, hasKey, rowOf, foundAt, keysAmong}
+use Rattle.lines_words.proofs.EventNeeds.{one-less, one-same, one-more}
+use Rattle.lines_words.proofs.EventLaws.{event-key-same}
 
 -- row_between
 module _ (key : ℕ → Text) (from e f : ℕ) (o : Order) (r : o ≡ orderOf (key f) (key e)) where
@@ -86,6 +88,54 @@ module _ (key : ℕ → Text) (es : List ℕ) (e : ℕ) (x : Bool) (lo hi : ℕ)
 
 pub ruleset for-has-key = (needs, keyed-start, keyed-end, keyed-up, keyed-down, keyed-hit)
 
+-- row_of
+module _ (key : ℕ → Text) (e f : ℕ) (o : Order) (r : o ≡ orderOf (key f) (key e)) where
+  pub stands-less : o ≡ Less → Less ≡ rowOf key e f
+  unfolding rowOf
+  stands-less h = rw (← r, h)
+
+  pub stands-more : o ≡ More → More ≡ rowOf key e f
+  unfolding rowOf
+  stands-more h = rw (← r, h)
+
+  pub stands-here : o ≡ Same → e ≡ f → Same ≡ rowOf key e f
+  unfolding rowOf
+  stands-here h k = rw (← r, h, eq-eqb e f k)
+
+  pub stands-late : o ≡ Same → (e ≡ f → ⊥) → e < f → More ≡ rowOf key e f
+  unfolding rowOf
+  stands-late h k l = rw (← r, h, ne-eqb e f k, lt-ltb e f l)
+
+  pub stands-early : o ≡ Same → (e ≡ f → ⊥) → f ≤ e → Less ≡ rowOf key e f
+  unfolding rowOf
+  stands-early h k l = rw (← r, h, ne-eqb e f k, le-ltb e f l)
+
+pub ruleset for-row-of = (needs, stands-less, stands-more, stands-here, stands-late, stands-early)
+
+-- find_entry
+abbrev pub Sought : (ℕ → Text) → List ℕ → ℕ → ℕ → ℕ → ℕ → Type 0
+Sought key es e x lo hi = Halves (λ (i : ℕ). rowOf key e (getD es i 0)) (λ (i : ℕ). i) (length es) x lo hi
+
+pub sought-start : (key : ℕ → Text) (es : List ℕ) (e : ℕ) → Sought key es e (foundAt key es e) 0 (length es)
+unfolding foundAt
+sought-start key es e = halves-start (λ (i : ℕ). rowOf key e (getD es i 0)) (λ (i : ℕ). i) (length es) (length es)
+
+module _ (key : ℕ → Text) (es : List ℕ) (e x lo hi : ℕ) (inv : Sought key es e x lo hi) where
+  pub sought-end : hi ≤ lo → length es ≡ x
+  sought-end h = halves-end (λ (i : ℕ). rowOf key e (getD es i 0)) (λ (i : ℕ). i) (length es) x lo hi inv h
+
+  module _ (h : lo < hi) (o : Order) (r : o ≡ rowOf key e (getD es (lo + (hi - lo) / 2) 0)) where
+    pub sought-up : o ≡ Less → Sought key es e x (lo + (hi - lo) / 2 + 1) hi
+    sought-up z = turn-up (λ (i : ℕ). rowOf key e (getD es i 0)) (λ (i : ℕ). i) (length es) x lo hi inv h o (sym r) z
+
+    pub sought-down : o ≡ More → Sought key es e x lo (lo + (hi - lo) / 2)
+    sought-down z = turn-down (λ (i : ℕ). rowOf key e (getD es i 0)) (λ (i : ℕ). i) (length es) x lo hi inv h o (sym r) z
+
+    pub sought-hit : o ≡ Same → lo + (hi - lo) / 2 ≡ x
+    sought-hit z = turn-hit (λ (i : ℕ). rowOf key e (getD es i 0)) (λ (i : ℕ). i) (length es) x lo hi inv h o (sym r) z
+
+pub ruleset for-find-entry = (needs, sought-start, sought-end, sought-up, sought-down, sought-hit)
+
 -- keys_among
 module _ (key : ℕ → Text) (es fs : List ℕ) where
   pub among-start : keysAmong key es fs ≡ keysAmong key (drop 0 es) fs
@@ -108,17 +158,7 @@ module _ (key : ℕ → Text) (es fs : List ℕ) where
 pub ruleset for-keys-among = (needs, among-start, among-end, among-on, among-not)
 
 -- one_key
-module _ (a b : Text) (o : Order) (r : o ≡ orderOf a b) where
-  pub one-less : o ≡ Less → false ≡ same a b
-  unfolding same
-  one-less h = rw (← r, h)
+pub key-of-event : (s : Text) (w e f : ℕ) (r : Bool) → w ≡ 2 → r ≡ same (chartEvent s e) (chartEvent s f) → r ≡ same (keyAt w s e) (keyAt w s f)
+key-of-event s w e f r h x = rw h (x ∙ sym (event-key-same s e f))
 
-  pub one-same : o ≡ Same → true ≡ same a b
-  unfolding same
-  one-same h = rw (← r, h)
-
-  pub one-more : o ≡ More → false ≡ same a b
-  unfolding same
-  one-more h = rw (← r, h)
-
-pub ruleset for-one-key = (needs, one-less, one-same, one-more)
+pub ruleset for-one-key = (needs, key-of-event, one-less, one-same, one-more)

@@ -1,11 +1,13 @@
 // What is asked of entries that stand in order, by halving; and one entry kept for each key.
+use crate::EVENT;
+use crate::events::one_event;
 use crate::keys::key_order;
 use house::Order;
 ghost use mathlib.Core.Path.{_≡_};
 ghost use lib.ListN.{length};
 ghost use Rattle.house.specs.Text.{same};
 ghost use Rattle.house.specs.Over.{over};
-ghost use Rattle.lines_words.specs.Words.{keyAt, rowBetween, hasBetween, hasKey, keysAmong, apart};
+ghost use Rattle.lines_words.specs.Words.{keyAt, rowBetween, hasBetween, hasKey, rowOf, foundAt, keysAmong, apart};
 
 // How f stands to the entries from number `from` on and below number e that have the key of e.
 fn row_between(file: &[u8], what: u8, from: u32, e: u32, f: u32) -> Order
@@ -79,6 +81,52 @@ fn has_key(file: &[u8], what: u8, entries: &[u32], e: u32) -> bool
     false
 }
 
+// How f stands to e: before it, the same, or after it.
+fn row_of(file: &[u8], what: u8, e: u32, f: u32) -> Order
+    ensures { λ r. ⌜ r ≡ rowOf (keyAt what (now (file .entry))) e f ⌝ }
+{
+    let o = key_order(file, what, f, e);
+    match o {
+        Order::Less => Order::Less,
+        Order::Same => {
+            if e == f {
+                return Order::Same;
+            }
+            if e < f {
+                return Order::More;
+            }
+            Order::Less
+        }
+        Order::More => Order::More,
+    }
+}
+
+// Where e stands among entries in order; past the last where it does not.
+pub fn find_entry(file: &[u8], what: u8, entries: &[u32], e: u32) -> usize
+    ensures { λ r. ⌜ r ≡ foundAt (keyAt what (now (file .entry))) (now (entries .entry)) e ⌝ }
+{
+    let mut lo = 0;
+    let mut hi = entries.len();
+    while lo < hi {
+        let mid = lo + (hi - lo) / 2;
+        let o = row_of(file, what, e, entries[mid]);
+        match o {
+            Order::Less => {
+                lo = mid + 1;
+                continue;
+            }
+            Order::Same => {
+                return mid;
+            }
+            Order::More => {
+                hi = mid;
+                continue;
+            }
+        }
+    }
+    entries.len()
+}
+
 // Whether the keys of the first entries are all keys of the second.
 pub fn keys_among(file: &[u8], what: u8, entries: &[u32], others: &[u32]) -> bool
     ensures { λ r. ⌜ r ≡ keysAmong (keyAt what (now (file .entry))) (now (entries .entry)) (now (others .entry)) ⌝ }
@@ -94,10 +142,13 @@ pub fn keys_among(file: &[u8], what: u8, entries: &[u32], others: &[u32]) -> boo
     true
 }
 
-// Whether two entries have one key.
-fn one_key(file: &[u8], what: u8, e: u32, f: u32) -> bool
+// Whether two entries have one key. Events are one exactly if they are so with their numbers, which are not asked for.
+pub fn one_key(file: &[u8], what: u8, e: u32, f: u32) -> bool
     ensures { λ r. ⌜ r ≡ same (keyAt what (now (file .entry)) e) (keyAt what (now (file .entry)) f) ⌝ }
 {
+    if what == EVENT {
+        return one_event(file, e, f);
+    }
     let o = key_order(file, what, e, f);
     match o {
         Order::Less => false,

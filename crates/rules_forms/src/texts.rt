@@ -45,14 +45,14 @@ fn is_positive(t: &[u8], most: usize) -> bool
 }
 
 // IH 2: 1 to 3 letters or digits.
-pub(crate) fn is_prefix(t: &[u8]) -> bool
+pub fn is_prefix(t: &[u8]) -> bool
     ensures { λ r. ⌜ r ≡ isPrefix (now (t .entry)) ⌝ }
 {
     crate::classes::run_in(t, 1, 3, LETTERS_DIGITS)
 }
 
 // IH 3: 1 to 10 letters or digits.
-pub(crate) fn is_batch(t: &[u8]) -> bool
+pub fn is_batch(t: &[u8]) -> bool
     ensures { λ r. ⌜ r ≡ isBatch (now (t .entry)) ⌝ }
 {
     crate::classes::run_in(t, 1, 10, LETTERS_DIGITS)

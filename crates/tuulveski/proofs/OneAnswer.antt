@@ -1,12 +1,15 @@
--- No second answer meets the contract of a public function, nor a second ledger or findings area.
+-- No second answer meets the contract of a public function, nor a second area that it leaves.
 -- Assumes nothing.
-use mathlib.Core.Path.{_≡_, sym, _∙_}
+use mathlib.Core.Path.{_≡_, sym, ap, _∙_}
 use Prim.Native.Nat.{ℕ}
 use Rattle.house.specs.Text.{Text}
 use Rattle.tuulveski.specs.declared.interface.Numbers.{Numbers}
 use Rattle.tuulveski.specs.declared.interface.FieldAt.{FieldAt}
 use Rattle.tuulveski.specs.declared.interface.LineFrom.{LineFrom}
+use Rattle.tuulveski.specs.declared.interface.Written.{Written}
 use Rattle.answers.specs.Answers.{Lent}
+use Rattle.chart_definitions.specs.Submissions.{Request, Writes}
+use Rattle.chart_definitions.specs.Submissions as Submissions
 use Rattle.tuulveski.specs.Interface.{numbers, numbersIn, GivesNumbers, fieldAt, fieldFrom, lineFrom}
 
 -- the eight numbers are the whole of the struct
@@ -37,3 +40,8 @@ tuulveski-line-from-one s start number line r q e f = e ∙ sym f
 
 tuulveski-field-from-one : (s : Text) (start field : ℕ) (r q : FieldAt) → r ≡ fieldFrom s start field → q ≡ fieldFrom s start field → r ≡ q
 tuulveski-field-from-one s start field r q e f = e ∙ sym f
+
+tuulveski-write-one : (x : Request) (r q : Written) (s t : Text) → Writes x (r .answer) (r .length) s → Writes x (q .answer) (q .length) t → (r ≡ q) × (s ≡ t)
+tuulveski-write-one x r q s t e f =
+    let p = e ∙ sym f in
+    (ap (λ (w : Submissions.Written). record { answer = w .answer; length = w .length }) p, ap (λ (w : Submissions.Written). w .area) p)

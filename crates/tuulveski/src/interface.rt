@@ -3,6 +3,7 @@ use answers::Answer;
 ghost use mathlib.Core.Path.{_≡_};
 ghost use Prim.Native.Nat.{_<_};
 ghost use Rattle.answers.specs.Answers.{lent, numbersOf};
+ghost use Rattle.chart_definitions.specs.Submissions.{request, Writes};
 ghost use Rattle.tuulveski.specs.Interface.{numbers, numbersIn, GivesNumbers, fieldAt, fieldFrom, lineFrom};
 ghost use Rattle.tuulveski.specs.Inside.{Narrow};
 
@@ -32,6 +33,13 @@ pub struct FieldAt {
 pub struct LineFrom {
     pub line: usize,
     pub start: usize,
+}
+
+// What writing answers, and the length of the file, 0 where it is refused.
+#[repr(C)]
+pub struct Written {
+    pub answer: u32,
+    pub length: u32,
 }
 
 // A number of 32 bits.
@@ -150,5 +158,23 @@ pub extern "C" fn tuulveski_field_from(file: &[u8], start: usize, field: usize) 
         present: place.there,
         start: place.start,
         length: place.length,
+    }
+}
+
+// Writes a submission from a chart into an area.
+#[no_mangle]
+pub extern "C" fn tuulveski_write(
+    prefix: &[u8],
+    batch: &[u8],
+    chart: &[u8],
+    out: &mut [u8],
+) -> Written
+    ensures { λ r. ⌜ Writes (request (now (prefix .entry)) (now (batch .entry)) (now (chart .entry)) (now (out .entry)))
+        (r .answer) (r .length) (now (out .exit)) ⌝ }
+{
+    let a = chart::write(prefix, batch, chart, out);
+    Written {
+        answer: a.answer,
+        length: a.length,
     }
 }

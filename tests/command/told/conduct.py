@@ -92,7 +92,7 @@ def help_and_version(runner):
         yield from differs(ended, 0)
         if part not in ended.out.decode():
             yield f"{words} does not name {part}"
-    yield from differs(runner.run("--version"), 0, "tuulveski 0.2.0\n")
+    yield from differs(runner.run("--version"), 0, "tuulveski 0.3.0\n")
 
 
 def usage_errors(runner):

@@ -9,11 +9,14 @@ import long
 import outcomes
 import rules
 import shapes
+import writing
+import written
 from data import E
 from running import Runner, collected, transcript, try_case
 
 RULE_14 = next(tried for tried in rules.CASES if tried.name == "rule 14")
 CAUSE_5 = next(tried for tried in shapes.CASES if tried.name == "cause 5, few")
+FILE_E, CHART_CUT = (next(tried for tried in written.CASES if tried.name == name) for name in ("File E", "cut, IE"))
 ANSWER_0, ANSWER_7 = outcomes.CASES[0], next(tried for tried in outcomes.CASES if tried.name == "answer 7")
 
 # What is expected wrongly, the case with it, and how the fault begins.
@@ -27,6 +30,8 @@ EXPECTATIONS = [
     ("another count", ANSWER_0._replace(answer=(0, 0, 0, 2, 0, 0, 0)), "in numbers"),
     ("another cause", CAUSE_5._replace(answer=(5, 3, 4, 0, 0, 0, 0)), "in numbers"),
     ("another day", ANSWER_0._replace(today="20220831"), "in numbers"),
+    ("another file of a chart", FILE_E._replace(file=E + b"x"), "it writes"),
+    ("another answer of a chart", CHART_CUT._replace(answer=0), "exit status 1, not 0"),
 ]
 
 # A wrong command, as a shell runs it around the right one, the test that must report it, and a part of the report.
@@ -50,7 +55,7 @@ COMMANDS = [
     ("a full disk has exit status 0", '"$@"; exit 0', conduct.writing_fails, "exit status 0"),
     ("usage with exit status 0", '"$@"; exit 0', conduct.usage_errors, "exit status 0"),
     ("usage on standard output", '"$@" 2>&1', conduct.usage_errors, "not ''"),
-    ("another version", '"$@" | sed s/0.2.0/0.1.0/', conduct.help_and_version, "not 'tuulveski 0.2.0"),
+    ("another version", '"$@" | sed s/0.3.0/0.1.0/', conduct.help_and_version, "not 'tuulveski 0.3.0"),
     ("nothing is kept", 'c=$1; shift 2; "$c" check "$@"', keeping.keeps, "the ledger has"),
     ("a refused file clears the ledger", '"$@"; s=$?; [ $s = 0 ] || : >ledger; exit $s', keeping.keeps, "altered"),
     ("a refusal touches the ledger", '"$@"; s=$?; touch ledger; exit $s', keeping.refused_leaves, "a file was altered"),
@@ -59,6 +64,17 @@ COMMANDS = [
     ("accepted is told where nothing is kept", '"$@"; s=$?; echo accepted; exit $s', keeping.keeping_fails, "not ''"),
     ("it goes on after a failure", '"$@"; s=$?; [ $# = 13 ] && "$1" submit -b "$6" -l "$8" "${12}"; exit $s', keeping.order_matters, "it prints"),
     ("the ledger is not waited for", 'for w; do shift; [ "$w" = 60 ] && w=0; set -- "$@" "$w"; done; "$@"', keeping.held_ledger, "exit status 2"),
+    ("a chart's lot is lost", '"$@" | grep -v "L2"', FILE_E, "it writes"),
+    ("a chart's refusal has exit status 0", '"$@"; exit 0', CHART_CUT, "exit status 0"),
+    ("a refused chart makes a file", '"$@"; s=$?; [ $s != 1 ] || : >out.txt; exit $s', CHART_CUT, "a file was"),
+    ("the chart is written over", '"$@"; s=$?; : >day.chart; exit $s', FILE_E, "a file was"),
+    ("a refusal without words", '"$@" 2>/dev/null', CHART_CUT, "standard error has"),
+    ("a file is written over", 'rm -f there.txt; "$@"', writing.never_over, "exit status 0"),
+    ("others may read what is written", '"$@"; s=$?; chmod 644 1 2>/dev/null; exit $s', writing.file_e, "others may read it"),
+    ("lots stay apart", '"$@"; s=$?; [ ! -e day.txt ] || cp scattered.txt day.txt; exit $s', writing.travel_clinic, "not together"),
+    ("numbers past 99,999 are not told", '"$@" 2>&1 >/dev/null | grep -v "rule 2" >&2; exit 0', writing.most_records, "has not"),
+    ("half of a file is left", '"$@"; s=$?; [ $s != 2 ] || : >.out.txt.new; exit $s', writing.cannot_be_written, "the folder has"),
+    ("any other chart", '"$@"; s=$?; [ ! -e any.txt ] || sed -i s/W/V/ any.txt; exit $s', writing.any_chart, "another file"),
     ("findings are cut at 1,000", '"$@" | head -n 1000; exit 1', long.more_findings, "not"),
     ("a small stack is too small", '"$@" >out; s=$?; ulimit -s | grep -q 256 && exit 139; cat out; exit $s', long.small_stack, "exit status 139"),
 ]
@@ -67,7 +83,7 @@ COMMANDS = [
 def faults_by(runner, test):
     if callable(test):
         return collected(test(runner))
-    return try_case(runner, test)[1]
+    return (written.try_written if isinstance(test, written.Written) else try_case)(runner, test)[1]
 
 
 def is_tried(runner, test):

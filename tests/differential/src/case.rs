@@ -1,5 +1,7 @@
 //! A case, what is said of it, and the stream that carries both.
 
+pub mod writing;
+
 use crate::check::{self, Answer};
 use crate::fields::{self, Document};
 use std::io::{self, Read, Write};
@@ -59,8 +61,7 @@ impl Case {
     pub fn write(&self, stream: &mut impl Write) -> io::Result<()> {
         stream.write_all(&self.today.to_le_bytes())?;
         for bytes in [&self.file, &self.book, &self.ledger] {
-            stream.write_all(&(bytes.len() as u32).to_le_bytes())?;
-            stream.write_all(bytes)?;
+            write_bytes(stream, bytes)?;
         }
         stream.write_all(&(self.room as u32).to_le_bytes())
     }
@@ -95,6 +96,11 @@ fn read_first_number(stream: &mut impl Read) -> io::Result<Option<u32>> {
     Ok(Some(u32::from_le_bytes([
         first[0], rest[0], rest[1], rest[2],
     ])))
+}
+
+fn write_bytes(stream: &mut impl Write, bytes: &[u8]) -> io::Result<()> {
+    stream.write_all(&(bytes.len() as u32).to_le_bytes())?;
+    stream.write_all(bytes)
 }
 
 fn read_number(stream: &mut impl Read) -> io::Result<u32> {

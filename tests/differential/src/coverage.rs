@@ -1,9 +1,12 @@
 //! What the cases of a run reach: answers, causes, (kind, field, rule) triples,
-//! the ends of codes and pairs, and rules judged over long lists.
+//! the ends of codes and pairs, rules judged over long lists, and what the writer
+//! meets.
 
 mod ends;
 mod lists;
+mod writings;
 
+use crate::case::writing::WriteCase;
 use crate::case::{Case, Outcome};
 use crate::check::shape::Kind;
 use crate::check::{self, Finding};
@@ -19,6 +22,7 @@ pub struct Coverage {
     triples: BTreeMap<Triple, usize>,
     ends: BTreeMap<Row, usize>,
     lists: BTreeMap<lists::Row, usize>,
+    writings: BTreeMap<writings::Row, usize>,
 }
 
 /// The rules that document 01 allows at each field.
@@ -84,6 +88,13 @@ impl Coverage {
     }
 
     /// Each row counts once a case.
+    pub fn add_writing(&mut self, case: &WriteCase) {
+        for row in writings::rows(case) {
+            *self.writings.entry(row).or_default() += 1;
+        }
+    }
+
+    /// Each row counts once a case.
     fn add_ends(&mut self, case: &Case, is_accepted: bool) {
         for row in ends::rows(case, is_accepted) {
             *self.ends.entry(row).or_default() += 1;
@@ -95,6 +106,23 @@ impl Coverage {
         for triple in triples(case, findings) {
             *self.triples.entry(triple).or_default() += 1;
         }
+    }
+
+    /// What the writer may meet and no case reached.
+    pub fn missing_of_writer(&self) -> Vec<String> {
+        let missing = writings::possible().into_iter();
+        let missing = missing.filter(|row| !self.writings.contains_key(row));
+        missing.map(|row| row.to_string()).collect()
+    }
+
+    pub fn print_writings(&self) {
+        let rows = writings::possible();
+        for row in &rows {
+            let count = self.writings.get(row).copied().unwrap_or(0);
+            println!("write, {row}: {count}");
+        }
+        let reached = rows.len() - self.missing_of_writer().len();
+        println!("{reached} of {} of the writer reached", rows.len());
     }
 
     /// The answers, causes, triples, ends and lists that no case reached.

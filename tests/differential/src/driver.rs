@@ -1,10 +1,8 @@
 //! Holds a batch program against the implementation, case by case.
 
-use crate::case::{Case, Outcome, Verdict};
-use crate::check::{self, ledger::Lent};
 use crate::coverage::Coverage;
-use crate::generate;
 use crate::program::Program;
+use crate::question::{Question, Said};
 use crate::shrink::shrink;
 use std::path::PathBuf;
 
@@ -15,7 +13,7 @@ const RUN_BYTES: usize = 32_000_000;
 /// The differences that are made smaller; the others are only counted.
 const SHRUNK: usize = 3;
 
-/// After so many differences the run ends.
+/// After so many differences the run of an operation ends.
 const MOST_DIFFERENCES: usize = 200;
 
 pub struct Run {
@@ -35,37 +33,51 @@ impl Run {
         }
     }
 
-    /// The implementation alone: it keeps what document 01 says of the areas.
-    pub fn by_itself(&mut self, cases: usize) {
+    /// The implementation alone: it keeps what the documents say of the areas.
+    pub fn by_itself<Q: Question>(&mut self, cases: usize) {
         for number in 0..cases as u64 {
-            let case = generate::case(self.seed, number);
-            let outcome = case.outcome();
-            self.coverage.add(&case, &outcome);
-            match broken_promise(&case, &outcome) {
+            let case = Q::generated(self.seed, number);
+            case.cover(&mut self.coverage);
+            match case.broken_promise() {
                 None => self.passed += 1,
                 Some(promise) => {
                     self.failed += 1;
-                    println!("seed {} case {number}: {promise}", self.seed);
+                    println!("seed {} case {}{number}: {promise}", self.seed, Q::NAME);
                 }
             }
         }
     }
 
-    pub fn against(&mut self, program: &Program, cases: usize) {
+    /// The program against the implementation on so many cases of an operation.
+    pub fn against<Q: Question + Sync>(&mut self, program: &Program, cases: usize) {
+        let mut asked = Asked {
+            run: self,
+            program,
+            failed: 0,
+        };
         let mut from = 0;
-        while from < cases && self.failed < MOST_DIFFERENCES {
-            let batch = self.batch(from, cases);
-            from += self.compare(program, from, &batch);
+        while from < cases && asked.failed < MOST_DIFFERENCES {
+            let batch: Vec<Q> = asked.batch(from, cases);
+            from += asked.compare(from, &batch);
         }
         self.failed += cases - from;
     }
+}
 
-    fn batch(&self, from: usize, cases: usize) -> Vec<Case> {
+/// A run of one operation.
+struct Asked<'a> {
+    run: &'a mut Run,
+    program: &'a Program,
+    failed: usize,
+}
+
+impl Asked<'_> {
+    fn batch<Q: Question>(&self, from: usize, cases: usize) -> Vec<Q> {
         let mut batch = Vec::new();
         let mut bytes = 0;
         while from + batch.len() < cases && batch.len() < RUN_CASES && bytes < RUN_BYTES {
-            let case = generate::case(self.seed, (from + batch.len()) as u64);
-            bytes += case.file.len() + case.book.len() + case.ledger.len() + case.room;
+            let case = Q::generated(self.run.seed, (from + batch.len()) as u64);
+            bytes += case.bytes();
             batch.push(case);
         }
         batch
@@ -73,16 +85,16 @@ impl Run {
 
     /// Gives back how many cases are settled: all, or those up to the one at
     /// which the program stopped.
-    fn compare(&mut self, program: &Program, from: usize, batch: &[Case]) -> usize {
-        for (place, (case, said)) in batch.iter().zip(program.run(batch)).enumerate() {
-            let outcome = case.outcome();
-            self.coverage.add(case, &outcome);
+    fn compare<Q: Question + Sync>(&mut self, from: usize, batch: &[Q]) -> usize {
+        for (place, (case, said)) in batch.iter().zip(self.program.run(batch)).enumerate() {
+            case.cover(&mut self.run.coverage);
             if said == Some(case.verdict()) {
-                self.passed += 1;
+                self.run.passed += 1;
                 continue;
             }
             self.failed += 1;
-            self.report(program, from + place, case, said);
+            self.run.failed += 1;
+            self.report(from + place, case, said);
             if said.is_none() || self.failed >= MOST_DIFFERENCES {
                 return place + 1;
             }
@@ -90,59 +102,58 @@ impl Run {
         batch.len()
     }
 
-    fn report(&self, program: &Program, number: usize, case: &Case, said: Option<Verdict>) {
-        println!("seed {} case {number} differs", self.seed);
-        let path = self.save(&format!("{}-{number}", self.seed), case);
+    fn report<Q: Question + Sync>(&self, number: usize, case: &Q, said: Option<Q::Verdict>) {
+        let seed = self.run.seed;
+        println!("seed {seed} case {}{number} differs", Q::NAME);
+        let path = save(&format!("{}{seed}-{number}", Q::NAME), case);
         print_difference(case, said);
         println!("  written to {}", path.display());
         if self.failed <= SHRUNK {
-            self.report_smaller(program, number, case);
+            self.report_smaller(number, case);
         }
     }
 
-    /// A smaller case may not have more findings than the case had: what is left
-    /// is then easy to read.
-    fn report_smaller(&self, program: &Program, number: usize, case: &Case) {
-        if !differ(program, std::slice::from_ref(case))[0] {
+    fn report_smaller<Q: Question + Sync>(&self, number: usize, case: &Q) {
+        if !differ(self.program, std::slice::from_ref(case))[0] {
             println!("  alone it does not differ");
             return;
         }
-        let most = case.verdict().numbers[3];
-        let is_no_worse = |case: &Case| case.verdict().numbers[3] <= most;
-        let property = |cases: &[Case]| -> Vec<bool> {
-            let differ = differ(program, cases);
+        let whole = case.verdict();
+        let property = |cases: &[Q]| -> Vec<bool> {
+            let differ = differ(self.program, cases);
+            let cases = cases.iter().zip(differ);
             cases
-                .iter()
-                .zip(differ)
-                .map(|(case, differs)| differs && is_no_worse(case))
+                .map(|(case, differs)| differs && case.is_no_worse(&whole))
                 .collect()
         };
         let smaller = shrink(case, &property);
-        let path = self.save(&format!("{}-{number}-smaller", self.seed), &smaller);
+        let name = format!("{}{}-{number}-smaller", Q::NAME, self.run.seed);
+        let path = save(&name, &smaller);
         println!("  made smaller:");
-        print_case(&smaller);
-        print_difference(&smaller, program.run(std::slice::from_ref(&smaller))[0]);
+        smaller.show();
+        let said = self.program.run(std::slice::from_ref(&smaller))[0];
+        print_difference(&smaller, said);
         println!("  written to {}", path.display());
     }
+}
 
-    fn save(&self, name: &str, case: &Case) -> PathBuf {
-        let folder = PathBuf::from("target/differences");
-        let path = folder.join(format!("{name}.case"));
-        let mut bytes = Vec::new();
-        let written = case
-            .write(&mut bytes)
-            .and_then(|()| std::fs::create_dir_all(&folder))
-            .and_then(|()| std::fs::write(&path, bytes));
-        if let Err(error) = written {
-            println!("  cannot write {}: {error}", path.display());
-        }
-        path
+fn save<Q: Question>(name: &str, case: &Q) -> PathBuf {
+    let folder = PathBuf::from("target/differences");
+    let path = folder.join(format!("{name}.case"));
+    let mut bytes = Vec::new();
+    let written = case
+        .send(&mut bytes)
+        .and_then(|()| std::fs::create_dir_all(&folder))
+        .and_then(|()| std::fs::write(&path, bytes));
+    if let Err(error) = written {
+        println!("  cannot write {}: {error}", path.display());
     }
+    path
 }
 
 /// Whether the program and the implementation differ on each case. Where the
 /// program stops, the cases after that one are asked again.
-fn differ(program: &Program, cases: &[Case]) -> Vec<bool> {
+fn differ<Q: Question + Sync>(program: &Program, cases: &[Q]) -> Vec<bool> {
     let mut differ = Vec::new();
     while differ.len() < cases.len() {
         let rest = &cases[differ.len()..];
@@ -156,58 +167,10 @@ fn differ(program: &Program, cases: &[Case]) -> Vec<bool> {
     differ
 }
 
-/// What document 01 says of the ledger and the findings area at each answer.
-fn broken_promise(case: &Case, outcome: &Outcome) -> Option<&'static str> {
-    let answer = outcome.answer;
-    let kept = answer.findings as usize * check::FINDING_WIDTH;
-    let whole = case.room / check::FINDING_WIDTH * check::FINDING_WIDTH;
-    if answer.answer != check::ACCEPTED && outcome.ledger != case.ledger {
-        return Some("the ledger alters only at 0");
-    }
-    if Lent::read(&case.ledger).is_some() && Lent::read(&outcome.ledger).is_none() {
-        return Some("the ledger stays well formed");
-    }
-    if outcome.area[kept.min(whole)..]
-        .iter()
-        .any(|&byte| byte != crate::case::FILL)
-    {
-        return Some("other bytes of the findings area stay");
-    }
-    None
-}
-
-fn print_difference(case: &Case, said: Option<Verdict>) {
+fn print_difference<Q: Question>(case: &Q, said: Option<Q::Verdict>) {
     println!("  expected {}", case.verdict().line());
     println!(
         "  got      {}",
         said.map_or("no answer".to_string(), |said| said.line())
     );
-}
-
-/// A case for the eye; long ones are only in their files.
-fn print_case(case: &Case) {
-    println!("  today {}, room {}", case.today, case.room);
-    if case.file.len() + case.book.len() + case.ledger.len() > 20_000 {
-        println!(
-            "  a file of {}, a book of {}, a ledger of {} bytes",
-            case.file.len(),
-            case.book.len(),
-            case.ledger.len()
-        );
-        return;
-    }
-    for line in case.file.split_inclusive(|&byte| byte == b'\n') {
-        println!("  file   {}", line.escape_ascii());
-    }
-    println!("  book   {}", case.book.escape_ascii());
-    println!("  ledger {}", case.ledger.escape_ascii());
-    for finding in check::all_findings(case.today, &case.file, &case.book, &case.ledger)
-        .iter()
-        .take(20)
-    {
-        println!(
-            "  expected finding: line {} field {} rule {}",
-            finding.line, finding.field, finding.rule
-        );
-    }
 }

@@ -1,6 +1,7 @@
 //! The generator of cases: the same seed and number give the same case.
 
 pub mod calendar;
+pub mod charts;
 mod damage;
 mod lists;
 mod records;

@@ -1,4 +1,4 @@
-//! An independent implementation of document 01's check, a generator of cases,
+//! An independent implementation of the check and of the writer, generators of cases,
 //! and what is needed to hold another program against it.
 
 pub mod case;
@@ -9,6 +9,8 @@ pub mod fields;
 pub mod generate;
 pub mod one;
 pub mod program;
+pub mod question;
 pub mod random;
 pub mod shrink;
 pub mod speed;
+pub mod write;

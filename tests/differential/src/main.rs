@@ -1,21 +1,27 @@
-//! Holds a batch program against an independent implementation of document 01.
+//! Holds a batch program against an independent implementation of documents 01
+//! and 02.
 //!
-//! `differential N [SEED] -- PROGRAM..` compares N cases;
+//! `differential N [SEED] -- PROGRAM..` compares N cases of each operation;
 //! `differential N SEED --self` only runs the implementation;
-//! `differential N SEED --batch` is itself such a batch program;
+//! `differential N SEED --check | --write ..` takes cases of one operation alone;
+//! `differential N SEED --batch [--write]` is itself such a batch program;
 //! `differential N SEED --speed [-- PROGRAM..]` times long cases, N times each;
 //! `differential --check TODAY FILE BOOK LEDGER` checks one submission.
 
+use differential::case::writing::WriteCase;
 use differential::case::Case;
 use differential::driver::Run;
 use differential::one;
 use differential::program::Program;
+use differential::question::Question;
 use differential::speed;
 use std::io::{self, BufReader, BufWriter, Write};
 use std::process::ExitCode;
 
-const USAGE: &str = "differential N [SEED] -- PROGRAM..
-differential N SEED --self | --batch | --speed [-- PROGRAM..]
+const USAGE: &str = "differential N [SEED] [--check | --write] -- PROGRAM..
+differential N SEED --self [--check | --write]
+differential N SEED --batch [--write]
+differential N SEED --speed [-- PROGRAM..]
 differential --check TODAY FILE BOOK LEDGER";
 
 #[derive(Clone, Copy, PartialEq)]
@@ -26,10 +32,19 @@ enum Mode {
     Speed,
 }
 
+/// The operations whose cases are asked.
+#[derive(Clone, Copy, PartialEq)]
+enum Operations {
+    Check,
+    Write,
+    Every,
+}
+
 struct Arguments {
     cases: usize,
     seed: u64,
     mode: Mode,
+    operations: Operations,
     program: Option<Program>,
 }
 
@@ -45,7 +60,9 @@ fn main() -> ExitCode {
         return ExitCode::from(2);
     };
     match arguments.mode {
-        Mode::Batch => batch().map_or(ExitCode::FAILURE, |()| ExitCode::SUCCESS),
+        Mode::Batch => {
+            batch(arguments.operations).map_or(ExitCode::FAILURE, |()| ExitCode::SUCCESS)
+        }
         Mode::Speed => {
             speed::print(arguments.cases, arguments.program.as_ref());
             ExitCode::SUCCESS
@@ -63,11 +80,14 @@ fn arguments(words: Vec<String>) -> Option<Arguments> {
     let program = (!command.is_empty()).then_some(Program { command });
     let mut numbers = Vec::new();
     let mut mode = Mode::Compare;
+    let mut operations = Operations::Every;
     for word in &words[..dashes] {
         match word.as_str() {
             "--self" => mode = Mode::Itself,
             "--batch" => mode = Mode::Batch,
             "--speed" => mode = Mode::Speed,
+            "--check" => operations = Operations::Check,
+            "--write" => operations = Operations::Write,
             number => numbers.push(number.parse::<u64>().ok()?),
         }
     }
@@ -78,22 +98,35 @@ fn arguments(words: Vec<String>) -> Option<Arguments> {
         cases: cases as usize,
         seed,
         mode,
+        operations,
         program,
     })
 }
 
 fn run(arguments: &Arguments) -> ExitCode {
     let mut run = Run::new(arguments.seed);
-    match &arguments.program {
-        Some(program) if arguments.mode == Mode::Compare => run.against(program, arguments.cases),
-        _ => run.by_itself(arguments.cases),
+    if arguments.operations != Operations::Write {
+        ask::<Case>(arguments, &mut run);
+        run.coverage.print();
     }
-    run.coverage.print();
+    if arguments.operations != Operations::Check {
+        ask::<WriteCase>(arguments, &mut run);
+        run.coverage.print_writings();
+    }
     println!("{} passed, {} failed", run.passed, run.failed);
     if run.failed == 0 {
         ExitCode::SUCCESS
     } else {
         ExitCode::FAILURE
+    }
+}
+
+fn ask<Q: Question + Sync>(arguments: &Arguments, run: &mut Run) {
+    match &arguments.program {
+        Some(program) if arguments.mode == Mode::Compare => {
+            run.against::<Q>(program, arguments.cases)
+        }
+        _ => run.by_itself::<Q>(arguments.cases),
     }
 }
 
@@ -109,11 +142,17 @@ fn check_one(today: &str, file: &str, book: &str, ledger: &str) -> ExitCode {
 }
 
 /// A line for each case of the stream.
-fn batch() -> io::Result<()> {
+fn batch(operations: Operations) -> io::Result<()> {
     let mut stream = BufReader::new(io::stdin().lock());
     let mut output = BufWriter::new(io::stdout().lock());
-    while let Some(case) = Case::read(&mut stream)? {
-        writeln!(output, "{}", case.verdict().line())?;
+    if operations == Operations::Write {
+        while let Some(case) = WriteCase::read(&mut stream)? {
+            writeln!(output, "{}", case.verdict().line())?;
+        }
+    } else {
+        while let Some(case) = Case::read(&mut stream)? {
+            writeln!(output, "{}", case.verdict().line())?;
+        }
     }
     output.flush()
 }

@@ -1,6 +1,6 @@
 //! A batch program: it reads a stream of cases and prints a line for each.
 
-use crate::case::{Case, Verdict};
+use crate::question::{Question, Said};
 use std::io::{BufWriter, Read, Write};
 use std::process::{Child, ChildStdin, Command, Stdio};
 
@@ -11,20 +11,17 @@ pub struct Program {
 impl Program {
     /// What the program says of each case; nothing from the case on at which it
     /// stopped or printed something else.
-    pub fn run(&self, cases: &[Case]) -> Vec<Option<Verdict>> {
+    pub fn run<Q: Question + Sync>(&self, cases: &[Q]) -> Vec<Option<Q::Verdict>> {
         let printed = self.printed(cases);
         let text = String::from_utf8_lossy(&printed);
-        let mut verdicts: Vec<Option<Verdict>> = text
-            .lines()
-            .take(cases.len())
-            .map(Verdict::of_line)
-            .collect();
+        let lines = text.lines().take(cases.len());
+        let mut verdicts: Vec<Option<Q::Verdict>> = lines.map(Said::of_line).collect();
         verdicts.resize(cases.len(), None);
         verdicts
     }
 
-    fn printed(&self, cases: &[Case]) -> Vec<u8> {
-        let mut child = self.started();
+    fn printed<Q: Question + Sync>(&self, cases: &[Q]) -> Vec<u8> {
+        let mut child = self.started(Q::WORDS);
         let input = child.stdin.take().expect("a pipe");
         let mut output = child.stdout.take().expect("a pipe");
         let mut printed = Vec::new();
@@ -36,10 +33,11 @@ impl Program {
         printed
     }
 
-    fn started(&self) -> Child {
+    fn started(&self, words: &[&str]) -> Child {
         let mut command = Command::new(&self.command[0]);
         command
             .args(&self.command[1..])
+            .args(words)
             .stdin(Stdio::piped())
             .stdout(Stdio::piped());
         command.spawn().unwrap_or_else(|error| {
@@ -50,10 +48,10 @@ impl Program {
 }
 
 /// A program that stops early closes its input; what it printed tells the rest.
-fn send(cases: &[Case], input: ChildStdin) {
+fn send<Q: Question>(cases: &[Q], input: ChildStdin) {
     let mut stream = BufWriter::new(input);
     for case in cases {
-        if case.write(&mut stream).is_err() {
+        if case.send(&mut stream).is_err() {
             return;
         }
     }

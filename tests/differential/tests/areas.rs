@@ -125,7 +125,7 @@ fn a_line_gives_back_its_verdict() {
 fn cases_reach_every_answer_cause_triple_end_and_long_list() {
     assert_eq!(possible().count(), 110);
     let mut run = Run::new(20);
-    run.by_itself(20_000);
+    run.by_itself::<Case>(20_000);
     assert_eq!((run.passed, run.failed), (20_000, 0));
     assert_eq!(run.coverage.missing(), Vec::<String>::new());
 }

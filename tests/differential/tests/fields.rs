@@ -310,7 +310,7 @@ fn a_wrong_hash_is_a_difference() {
 fn a_run_counts_a_wrong_hash_as_failed() {
     let counts = |script: &str| {
         let mut run = Run::new(5);
-        run.against(&batch_program(script), 12);
+        run.against::<Case>(&batch_program(script), 12);
         (run.passed, run.failed)
     };
     assert_eq!(counts(""), (12, 0));

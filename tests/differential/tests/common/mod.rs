@@ -1,6 +1,10 @@
 //! Book E, File E, and what is asked of them.
 #![allow(dead_code)]
 
+pub mod charts;
+pub mod plain;
+pub mod slips;
+
 use differential::case::{Case, Outcome};
 use differential::check::{all_findings, Answer, ACCEPTED, SHAPE};
 

@@ -14,4 +14,6 @@ one-key-spec =
     (λ c. search for-one-key)
     (λ c. search for-one-key)
     (λ c. search for-one-key)
+    (λ c. search for-one-key)
+    (λ c. search for-one-key)
     (λ c. search for-one-key))

@@ -1,0 +1,3 @@
+-- Working definitions of the writer.
+-- Assumes nothing.
+pub mod Inside

@@ -1,0 +1,1 @@
+// What is claimed of the files that are written from charts: claims alone.

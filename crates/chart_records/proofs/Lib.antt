@@ -1,0 +1,10 @@
+-- Laws for the crates above
+pub mod ChartLaws
+pub mod LengthLaws
+-- What the functions' own needs ask
+mod KindNeeds
+mod WidthNeeds
+mod FormNeeds
+mod LengthNeeds
+-- No second answer
+mod OneAnswer
