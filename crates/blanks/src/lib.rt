@@ -1,4 +1,6 @@
 // Blanks at the ends of a text.
+#![tactic(auto)]
+
 ghost use Rattle.std.specs.Prelude.{◌≡◌, ◌≤◌, ◌<◌, length, take, drop};
 ghost use Rattle.house.specs.Text.{all, after_front, is_blank};
 ghost use Rattle.blanks.specs.Blanks.{without_last_blanks, trimmed};

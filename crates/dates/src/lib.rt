@@ -1,4 +1,6 @@
 // Dates: "eight digits YYYYMMDD, a real Gregorian day in the years 1800 to 2199".
+#![tactic(auto)]
+
 ghost use Rattle.std.specs.Prelude.{◌≡◌, true, ◌&&◌, ◌+◌, ◌-◌, ◌*◌, ◌≤◌, ◌<◌, length, get_or};
 ghost use Rattle.house.specs.Text.{within, digits};
 ghost use Rattle.dates.specs.Dates.{first_year, last_year, is_leap, days_in, is_day, is_end, day_of, dated_of, ended_of};

@@ -1,4 +1,6 @@
 // Reading lines: the lines of a file of any shape, and the fields of a line.
+#![tactic(auto)]
+
 mod fields;
 mod line;
 mod marks;

@@ -1,4 +1,6 @@
 // Numbers as texts.
+#![tactic(auto)]
+
 ghost use Rattle.std.specs.Prelude.{◌≡◌, length};
 ghost use Rattle.writing.specs.Writing.{decimal};
 

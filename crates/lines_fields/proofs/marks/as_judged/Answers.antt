@@ -1,0 +1,5 @@
+use Rattle.lines_fields.proofs.SpanNeeds.{for_judged_of}
+use Rattle.lines_fields.proofs.marks.as_judged.Goals as goal
+
+pub returns : goal.returns
+returns c = search for_judged_of
