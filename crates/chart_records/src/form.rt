@@ -1,24 +1,15 @@
-// The form of a chart's records: known kinds, whole records, bytes that may stand in a field, and guideline order.
-ghost use Rattle.std.specs.Prelude.{◌≡◌, cond, ◌+◌, ◌-◌, ◌<◌, ◌≤◌, length, take, drop};
-ghost use Rattle.house.specs.Text.{all, is_blank};
-ghost use Rattle.chart_definitions.specs.Charts.{is_field_byte};
-ghost use Rattle.chart_records.specs.Reading.{charted_at, right_after, comment_start};
-ghost use Rattle.chart_records.specs.Inside.{lifted_of, form_of, given_end};
+// The form of a chart: known kinds, whole records, bytes that may stand in a field, and guideline order.
+ghost use Rattle.std.specs.Prelude.{◌≡◌, ◌<◌, length};
+ghost use Rattle.house.specs.Text.{all};
+ghost use Rattle.chart_definitions.specs.Charts.{is_field_byte, is_chart};
+ghost use Rattle.chart_records.specs.Inside.{charted_at, lifted_of, right_after};
 
-use crate::kinds::{body_width, kind_at};
-use crate::notes::COMMENT_START;
+use crate::kinds::{body_width, kind_at, record_end};
 use house::{greater_byte, lesser_byte};
-use lines::{II, may_follow};
+use lines::{IF, IH, may_follow};
 
 // The greatest byte.
 const GREATEST: u8 = 255;
-
-// Bytes may not all stand in a field; or are all blanks; or are others.
-const WRONG: u8 = 0;
-
-const BLANK: u8 = 1;
-
-const TEXT: u8 = 2;
 
 // A byte where the greatest is looked for: a pipe counts as the greatest of all.
 fn lifted(b: u8) -> u8
@@ -30,78 +21,55 @@ fn lifted(b: u8) -> u8
     b
 }
 
-// Whether each byte lies in 32..126 and none is a pipe, and whether all are blanks: by the least and the greatest, which are found many bytes
-// at a time.
-fn form_of(bytes: &[u8]) -> u8
-    ensures { result ≡ form_of bytes.now }
+// Whether each byte lies in 32..126 and none is a pipe: by the least and the greatest, which are found many bytes at a time.
+fn is_field_bytes(body: &[u8]) -> bool
+    ensures { result ≡ all is_field_byte body.now }
 {
     let mut least: u8 = 32;
-    let mut most: u8 = 32;
+    let mut most: u8 = 126;
     let mut i = 0;
-    while i < bytes.len() {
-        let b = bytes[i];
+    while i < body.len() {
+        let b = body[i];
         least = lesser_byte(least, b);
         most = greater_byte(most, lifted(b));
         i += 1;
     }
     if least < 32 {
-        return WRONG;
+        return false;
     }
-    if 126 < most {
-        return WRONG;
-    }
-    if 32 < most {
-        return TEXT;
-    }
-    BLANK
+    most <= 126
 }
 
-// Where fields end that stand from one position to another; 0 if a byte may not stand in a field.
-fn fields_end(chart: &[u8], from: usize, end: usize) -> usize
-    requires from_le_end { from ≤ end }
-    requires end_in_bounds { end ≤ length chart.now }
-    ensures { result ≡ cond (all is_field_byte (take (end - from) (drop from chart.now))) end 0 }
-{
-    if form_of(&chart[from..end]) == WRONG {
-        return 0;
-    }
-    end
-}
-
-// Where those of an immunization end: before its comment where that is blank.
-fn immunization_end(chart: &[u8], from: usize, end: usize) -> usize
-    requires comment_start_bound { from + comment_start ≤ end }
-    requires end_in_bounds { end ≤ length chart.now }
-    ensures { result ≡ cond (all is_field_byte (take (end - from) (drop from chart.now)))
-        (cond (all is_blank (drop comment_start (take (end - from) (drop from chart.now)))) (from + comment_start) end) 0 }
-{
-    let comment = from + COMMENT_START;
-    if form_of(&chart[from..comment]) == WRONG {
-        return 0;
-    }
-    match form_of(&chart[comment..end]) {
-        WRONG => 0,
-        BLANK => comment,
-        _ => end,
-    }
-}
-
-// Where the given fields of the record at a position end; 0 if it is not of right form, or may not follow one of kind p.
-pub(crate) fn right_end(chart: &[u8], at: usize, p: u8) -> usize
+// Whether the record at a position is of right form, and may follow one of kind p.
+fn is_right_at(chart: &[u8], at: usize, p: u8) -> bool
     requires { at < length chart.now }
-    ensures { result ≡ cond (right_after p (charted_at chart.now at)) (given_end chart.now at) 0 }
+    ensures { result ≡ right_after p (charted_at chart.now at) }
 {
     let kind = kind_at(chart, at);
     if may_follow(p, kind) {
         let from = at + 1;
         let width = body_width(kind);
         if chart.len() - from < width {
-            return 0;
+            return false;
         }
-        if kind == II {
-            return immunization_end(chart, from, from + width);
-        }
-        return fields_end(chart, from, from + width);
+        return is_field_bytes(&chart[from..from + width]);
     }
-    0
+    false
+}
+
+// Whether a chart is of right form, in one pass from record to record, which stops at the first that is not.
+pub fn is_chart(chart: &[u8]) -> bool
+    ensures { result ≡ is_chart chart.now }
+{
+    let mut at = 0;
+    let mut p: u8 = IH;
+    while at < chart.len() {
+        if is_right_at(chart, at, p) {
+            p = kind_at(chart, at);
+            at = record_end(chart, at);
+        } else {
+            return false;
+        }
+    }
+    may_follow(p, IF)
 }

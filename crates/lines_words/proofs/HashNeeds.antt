@@ -12,7 +12,7 @@ use Rattle.house.specs.Text.{Text, pad}
 use Rattle.house.proofs.Suffix.{drop_here, drop_past}
 use Rattle.blanks.specs.Blanks.{trimmed}
 use Rattle.blanks.proofs.TrimLaws.{trimmed_short}
-use Rattle.lines_words.specs.Words.{part_at, chart_event, hash_bound, hash_factor, hash_from, event_hash}
+use Rattle.lines_words.specs.Words.{part_at, chart_event, hash_bound, hash_from, event_hash}
 use Rattle.lines_words.specs.Inside.{plain_at}
 use Rattle.lines_words.proofs.PlainNeeds.{plain_part}
 
@@ -20,19 +20,19 @@ use Rattle.lines_words.proofs.PlainNeeds.{plain_part}
 pub hash_append : (h : ℕ) (a b : Text) → hash_from h (a ++ b) ≡ hash_from (hash_from h a) b
 unfolding hash_from
 hash_append h [] b = refl
-hash_append h (x ∷ a) b = hash_append ((h * hash_factor + x) % hash_bound) a b
+hash_append h (x ∷ a) b = hash_append ((h * 257 + x) % hash_bound) a b
 
 hash_none : (h : ℕ) → hash_from h [] ≡ h
 unfolding hash_from
 hash_none h = refl
 
-hash_first : (h b : ℕ) (t : Text) → hash_from h (b ∷ t) ≡ hash_from ((h * hash_factor + b) % hash_bound) t
+hash_first : (h b : ℕ) (t : Text) → hash_from h (b ∷ t) ≡ hash_from ((h * 257 + b) % hash_bound) t
 unfolding hash_from
 hash_first h b t = refl
 
 -- hash_on
 module _ (t : Text) (i g x : ℕ) (inv : x ≡ hash_from g (drop i t)) where
-  pub hash_turn : (f : ℕ) → i < length t → f ≡ (g * hash_factor + get_or t i 0) % hash_bound → x ≡ hash_from f (drop (i + 1) t)
+  pub hash_turn : (f : ℕ) → i < length t → f ≡ (g * 257 + get_or t i 0) % hash_bound → x ≡ hash_from f (drop (i + 1) t)
   hash_turn f h e = inv ∙ ap (hash_from g) (drop_here t i h) ∙ hash_first g (get_or t i 0) (drop (i + 1) t) ∙ ap (λ (n : ℕ). hash_from n (drop (i + 1) t)) (sym e)
 
   pub hash_end : length t ≤ i → g ≡ x
@@ -51,7 +51,7 @@ pad_first zero h = absurd (not-suc-le-zero h)
 pad_first (suc n) h = simp unary_clauses
 
 module _ (k g x : ℕ) (inv : x ≡ hash_from g (pad k [])) where
-  pub pad_turn : (f : ℕ) → 0 < k → f ≡ (g * hash_factor + 32) % hash_bound → x ≡ hash_from f (pad (k - 1) [])
+  pub pad_turn : (f : ℕ) → 0 < k → f ≡ (g * 257 + 32) % hash_bound → x ≡ hash_from f (pad (k - 1) [])
   pad_turn f h e = inv ∙ ap (hash_from g) (pad_first k h) ∙ hash_first g 32 (pad (k - 1) []) ∙ ap (λ (n : ℕ). hash_from n (pad (k - 1) [])) (sym e)
 
   pub pad_end : k ≤ 0 → g ≡ x

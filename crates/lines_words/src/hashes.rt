@@ -1,25 +1,22 @@
 // The numbers of events: one number for one event.
 ghost use Rattle.std.specs.Prelude.{◌≡◌, [], ◌+◌, ◌*◌, ◌%◌, ◌<◌};
 ghost use Rattle.house.specs.Text.{pad};
-ghost use Rattle.lines_words.specs.Words.{part_at, hash_bound, hash_factor, hash_from, event_hash};
+ghost use Rattle.lines_words.specs.Words.{part_at, hash_bound, hash_from, event_hash};
 
 use crate::events::{
     DATE, DATE_AT, SUBMISSION, SUBMISSION_AT, ULI, ULI_AT, VACCINE, VACCINE_AT, part_of, plain_from,
 };
 
 // Numbers are below this one.
-const HASH_BOUND: u64 = 4294967296;
-
-// By which a number is multiplied before a byte is added.
-const HASH_FACTOR: u64 = 2654435761;
+const HASH_BOUND: u64 = 36028797018963968;
 
 // The number of one byte that follows what has the number h.
 fn hash_byte(h: u64, b: u8) -> u64
     requires { h < hash_bound }
-    ensures value { result ≡ (h * hash_factor + b) % hash_bound }
+    ensures value { result ≡ (h * 257 + b) % hash_bound }
     ensures upper_bound { result < hash_bound }
 {
-    (h * HASH_FACTOR + b as u64) % HASH_BOUND
+    (h * 257 + b as u64) % HASH_BOUND
 }
 
 // The number of a text that follows what has the number h.

@@ -1,6 +1,5 @@
 -- `chart::files::put_file` meets its contract.
 -- Assumes nothing.
-use borrow.Author.Rules.{rules}
 use Rattle.chart.proofs.WriteNeeds.{for_put_file}
 use Rattle.chart.proofs.WriteNeeds.{for_file_patients}
 use Rattle.chart.proofs.files.put_file.Statement.{statement}
@@ -11,8 +10,7 @@ put_file_spec =
     tie.close
     (tie.spec
     (λ c. search for_put_file)
-    (λ c k. (search rules, (search for_file_patients, (search for_file_patients, search for_file_patients))))
-    (λ c. search for_put_file)
+    (λ c k. (search for_file_patients, search for_file_patients))
     (λ c. search for_put_file)
     (λ c. search for_put_file)
     (λ c. search for_put_file)

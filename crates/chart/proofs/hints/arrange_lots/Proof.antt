@@ -1,7 +1,6 @@
 -- `chart::hints::arrange_lots` meets its contract.
 -- Assumes nothing.
 use Rattle.chart.proofs.HintNeeds.{for_arrange_lots}
-use Rattle.chart.proofs.HintNeeds.{for_arranged}
 use Rattle.chart.proofs.hints.arrange_lots.Statement.{statement}
 use Rattle.chart.proofs.hints.arrange_lots.Tie as tie
 
@@ -13,4 +12,8 @@ arrange_lots_spec =
     (λ c. search for_arrange_lots)
     (λ c. search for_arrange_lots)
     (λ c. search for_arrange_lots)
-    (λ c. search for_arranged))
+    (λ c. search for_arrange_lots)
+    (λ c. search for_arrange_lots)
+    (λ c. search for_arrange_lots)
+    (λ c. search for_arrange_lots)
+    (λ c. search for_arrange_lots))

@@ -1,6 +1,6 @@
 -- `chart::hints::note_lots` meets its contract.
 -- Assumes nothing.
-use Rattle.chart.proofs.HintNeeds.{for_notes}
+use Rattle.chart.proofs.HintNeeds.{for_hash_lots}
 use Prim.Native.Nat.{◌-◌}
 use mathlib.Core.Path.{◌≡◌}
 use lib.ListN.{length}
@@ -8,10 +8,10 @@ use Rattle.chart.proofs.hints.note_lots.Statement.{statement}
 use Rattle.chart.proofs.hints.note_lots.Tie as tie
 
 abbrev invariant-loop : tie.invariant-loop
-invariant-loop lots hints₀ i₀ hints i = length hints ≡ length hints₀
+invariant-loop lots room₀ i₀ room i = length room ≡ length room₀
 
 abbrev decreases-loop : tie.decreases-loop
-decreases-loop lots hints₀ i₀ hints i = length lots - i
+decreases-loop lots room₀ i₀ room i = length lots - i
 
 pub note_lots_spec : {M : Type 1} → statement M
 note_lots_spec =
@@ -19,13 +19,13 @@ note_lots_spec =
     (tie.spec
     invariant-loop
     decreases-loop
-    (λ c. search for_notes)
-    (λ c. search for_notes)
-    (λ c. search for_notes)
-    (λ c. search for_notes)
-    (λ c. search for_notes)
-    (λ c. search for_notes)
-    (λ c. search for_notes)
-    (λ c. search for_notes)
-    (λ c. search for_notes)
-    (λ c. search for_notes))
+    (λ c. search for_hash_lots)
+    (λ c. search for_hash_lots)
+    (λ c. search for_hash_lots)
+    (λ c. search for_hash_lots)
+    (λ c. search for_hash_lots)
+    (λ c. search for_hash_lots)
+    (λ c. search for_hash_lots)
+    (λ c. search for_hash_lots)
+    (λ c. search for_hash_lots)
+    (λ c. search for_hash_lots))

@@ -1,6 +1,5 @@
 -- `chart::lots::put_immunizations` meets its contract.
 -- Assumes nothing.
-use borrow.Author.Rules.{rules}
 use Rattle.chart.proofs.EventNeeds.{for_put_immunizations}
 use Rattle.chart.proofs.lots.put_immunizations.Statement.{statement}
 use Rattle.chart.proofs.lots.put_immunizations.Tie as tie
@@ -10,7 +9,6 @@ put_immunizations_spec =
     tie.close
     (tie.spec
     (λ c. search for_put_immunizations)
-    (λ c k. (search rules, (search for_put_immunizations, (search for_put_immunizations, search for_put_immunizations))))
     (λ c. search for_put_immunizations)
     (λ c. search for_put_immunizations)
     (λ c. search for_put_immunizations)

@@ -1,6 +1,6 @@
 -- `chart::patients::put_gathered` meets its contract.
 -- Assumes nothing.
-use Rattle.chart.proofs.PatientNeeds.{for_put_gathered, for_gathered_marks}
+use Rattle.chart.proofs.PatientNeeds.{for_put_gathered}
 use borrow.Author.Rules.{rules}
 use Rattle.chart.proofs.patients.put_gathered.Statement.{statement}
 use Rattle.chart.proofs.patients.put_gathered.Tie as tie
@@ -12,10 +12,7 @@ put_gathered_spec =
     (λ c. search for_put_gathered)
     (λ c. search for_put_gathered)
     (λ c. search for_put_gathered)
-    (λ c. search for_put_gathered)
-    (λ c. search for_put_gathered)
-    (λ c k. (search rules, (search rules, (search rules, (search for_put_gathered, (search for_gathered_marks, search rules))))))
-    (λ c. search for_put_gathered)
+    (λ c k. (search rules, (search rules, (search for_put_gathered, search rules))))
     (λ c. search for_put_gathered)
     (λ c. search for_put_gathered)
     (λ c. search for_put_gathered)

@@ -10,10 +10,10 @@ use Rattle.chart.proofs.patients.put_patients.Statement.{statement}
 use Rattle.chart.proofs.patients.put_patients.Tie as tie
 
 abbrev invariant-loop : tie.invariant-loop
-invariant-loop out₀ chart notes places₀ marks₀ hints₀ at₀ number₀ pos₀ out places marks hints at number pos = (length marks ≡ length marks₀) × (length hints ≡ length hints₀) × (length marks ≡ length places) × Passing chart (record { at = at₀; number = number₀; pos = pos₀ }) out₀ places₀ at number pos out places
+invariant-loop out₀ chart places₀ room₀ at₀ number₀ pos₀ out places room at number pos = (length room ≡ length room₀) × Passing chart (record { at = at₀; number = number₀; pos = pos₀ }) out₀ places₀ at number pos out places
 
 abbrev decreases-loop : tie.decreases-loop
-decreases-loop out₀ chart notes places₀ marks₀ hints₀ at₀ number₀ pos₀ out places marks hints at number pos = length (charted_in (drop at chart))
+decreases-loop out₀ chart places₀ room₀ at₀ number₀ pos₀ out places room at number pos = length (charted_in (drop at chart))
 
 pub put_patients_spec : {M : Type 1} → statement M
 put_patients_spec =
@@ -22,11 +22,10 @@ put_patients_spec =
     invariant-loop
     decreases-loop
     (λ c. search for_put_patients)
-    (λ c k. (search rules, (search for_patients_one, (search for_patients_one, (search rules, search for_patients_one)))))
+    (λ c k. (search for_patients_one, (search for_patients_one, search for_patients_one)))
     (λ c. search for_put_patients)
-    (λ c. (search rules, search rules, search rules, search for_patients_again))
-    (λ c. search for_put_patients)
-    (λ c. search for_put_patients)
+    (λ c. search for_patients_again)
     (λ c. search for_put_patients)
     (λ c. search for_put_patients)
-    (λ c. passing_end _ _ _ _ _ _ _ _ _ c.before.loop.invariant.3 (search rules)))
+    (λ c. search for_put_patients)
+    (λ c. passing_end _ _ _ _ _ _ _ _ _ c.before.loop.invariant.1 (search rules)))

@@ -10,10 +10,10 @@ use Rattle.chart.proofs.records.put_fields.Statement.{statement}
 use Rattle.chart.proofs.records.put_fields.Tie as tie
 
 abbrev invariant-loop : tie.invariant-loop
-invariant-loop out₀ at text kind given n i₀ from₀ pos₀ out i from pos = (i ≤ n) × ((n ≡ length (widths_of kind)) × Fields kind at text given out₀ i from pos out)
+invariant-loop out₀ at body kind n i₀ from₀ pos₀ out i from pos = (i ≤ n) × ((n ≡ length (widths_of kind)) × Fields kind at body out₀ i from pos out)
 
 abbrev decreases-loop : tie.decreases-loop
-decreases-loop out₀ at text kind given n i₀ from₀ pos₀ out i from pos = n - i
+decreases-loop out₀ at body kind n i₀ from₀ pos₀ out i from pos = n - i
 
 pub put_fields_spec : {M : Type 1} → statement M
 put_fields_spec =
@@ -21,13 +21,6 @@ put_fields_spec =
     (tie.spec
     invariant-loop
     decreases-loop
-    (λ c. search for-put-fields)
-    (λ c. search for-put-fields)
-    (λ c. search for-put-fields)
-    (λ c. search for-put-fields)
-    (λ c. search for-put-fields)
-    (λ c. search for-put-fields)
-    (λ c. search for-put-fields)
     (λ c. search for-put-fields)
     (λ c. search for-put-fields)
     (λ c. search for-put-fields)

@@ -8,10 +8,10 @@ use Rattle.chart.proofs.runs.put_front.Statement.{statement}
 use Rattle.chart.proofs.runs.put_front.Tie as tie
 
 abbrev invariant-loop : tie.invariant-loop
-invariant-loop out₀ chart notes a b at₀ number₀ pos₀ out at number pos = Fronting chart a b (record { at = at₀; number = number₀; pos = pos₀ }) out₀ at number pos out
+invariant-loop out₀ chart a b at₀ number₀ pos₀ out at number pos = Fronting chart a b (record { at = at₀; number = number₀; pos = pos₀ }) out₀ at number pos out
 
 abbrev decreases-loop : tie.decreases-loop
-decreases-loop out₀ chart notes a b at₀ number₀ pos₀ out at number pos = length chart - at
+decreases-loop out₀ chart a b at₀ number₀ pos₀ out at number pos = length chart - at
 
 pub put_front_spec : {M : Type 1} → statement M
 put_front_spec =

@@ -8,7 +8,7 @@ pub put_next_spec : {M : Type 1} → statement M
 put_next_spec =
     tie.close
     (tie.spec
-    (λ c k. (search for_put_next, (search for_put_next, (search for_put_next, search for_put_next))))
+    (λ c. search for_put_next)
     (λ c. search for_put_next)
     (λ c. search for_put_next)
     (λ c. search for_put_next)

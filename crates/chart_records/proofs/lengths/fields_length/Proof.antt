@@ -10,10 +10,10 @@ use Rattle.chart_records.proofs.lengths.fields_length.Statement.{statement}
 use Rattle.chart_records.proofs.lengths.fields_length.Tie as tie
 
 abbrev invariant-loop : tie.invariant-loop
-invariant-loop text kind count given long₀ at₀ i₀ long at i = (at ≤ length given) × (long ≤ at + i) × (i ≤ count) × (cut_length (widths_of kind) text ≡ long + cut_length (drop i (widths_of kind)) (drop at given))
+invariant-loop body kind count long₀ at₀ i₀ long at i = (at ≤ length body) × (long ≤ at + i) × (i ≤ count) × (cut_length (widths_of kind) body ≡ long + cut_length (drop i (widths_of kind)) (drop at body))
 
 abbrev decreases-loop : tie.decreases-loop
-decreases-loop text kind count given long₀ at₀ i₀ long at i = count - i
+decreases-loop body kind count long₀ at₀ i₀ long at i = count - i
 
 pub fields_length_spec : {M : Type 1} → statement M
 fields_length_spec =
@@ -21,10 +21,6 @@ fields_length_spec =
     (tie.spec
     invariant-loop
     decreases-loop
-    (λ c. search for_fields_length)
-    (λ c. search for_fields_length)
-    (λ c. search for_fields_length)
-    (λ c. search for_fields_length)
     (λ c. search for_fields_length)
     (λ c. search for_fields_length)
     (λ c. search for_fields_length)

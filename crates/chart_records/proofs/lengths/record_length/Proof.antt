@@ -15,5 +15,4 @@ record_length_spec =
     (λ c. search for_record_length)
     (λ c. search for_record_length)
     (λ c. search for_record_length)
-    (λ c. search for_record_length)
     (λ c. search for_record_length))
