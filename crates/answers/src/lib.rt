@@ -8,7 +8,7 @@ pub use steps::check;
 pub(crate) const FEW_PLACES: usize = 316;
 
 // The answers, by document 01's names; `numbers_of` in specs/ gives the paper's numbers of each.
-#[derive(Drop)]
+#[derive(Clone, Copy)]
 pub enum Answer {
     Accepted {
         added: usize,

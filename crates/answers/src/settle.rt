@@ -9,7 +9,7 @@ use ledger::SLOT;
 use lines::MOST_PLACES;
 
 // How many blocks add, change and delete.
-#[derive(Drop)]
+#[derive(Clone, Copy)]
 pub(crate) struct Counts {
     pub added: usize,
     pub changed: usize,
@@ -17,7 +17,7 @@ pub(crate) struct Counts {
 }
 
 // Whether the ledger has been brought up to date.
-#[derive(Drop)]
+#[derive(Clone, Copy)]
 pub(crate) enum Settled {
     Done(Counts),
     NoRoom,

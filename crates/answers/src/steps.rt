@@ -22,7 +22,7 @@ const BOOK_BUFFER: usize = 327680;
 const SHORT_FILE: usize = 16384;
 
 // How many blocks, findings and IN records there are.
-#[derive(Drop)]
+#[derive(Clone, Copy)]
 struct Tally {
     blocks: usize,
     findings: usize,

@@ -19,13 +19,13 @@ pub use search::find;
 pub use well_formed::valid;
 
 // A position in a book.
-#[derive(Drop)]
+#[derive(Clone, Copy)]
 pub struct Position {
     pub at: usize,
 }
 
 // What stands at a position: a whole entry of a known kind, with where its body starts and the next position; the end; or neither.
-#[derive(Drop)]
+#[derive(Clone, Copy)]
 pub enum Read {
     Entry {
         kind: u8,
@@ -37,7 +37,7 @@ pub enum Read {
 }
 
 // Where the entries of each kind start, and where the last end. Those of kind 1 start the book.
-#[derive(Drop)]
+#[derive(Clone, Copy)]
 pub struct Sections {
     antigens: usize,
     reasons: usize,
@@ -50,7 +50,7 @@ pub struct Sections {
 }
 
 // Where the entries of a kind lie, and the bytes of a code or the first of two, of the second, and of a whole entry.
-#[derive(Drop)]
+#[derive(Clone, Copy)]
 pub(crate) struct Layout {
     pub(crate) from: usize,
     pub(crate) to: usize,
@@ -60,21 +60,21 @@ pub(crate) struct Layout {
 }
 
 // Whether a book is well formed; if so, with its sections.
-#[derive(Drop)]
+#[derive(Clone, Copy)]
 pub enum Validity {
     Valid(Sections),
     Malformed,
 }
 
 // Where an entry is.
-#[derive(Drop)]
+#[derive(Clone, Copy)]
 pub enum Found {
     At(Position),
     Absent,
 }
 
 // What a book says of a code on a day.
-#[derive(Drop)]
+#[derive(Clone, Copy)]
 pub enum Standing {
     Unknown,
     OutOfForce,

@@ -12,7 +12,7 @@ use crate::{Found, Layout, Position, Sections};
 use house::Order;
 
 // Where an entry starts, and how its code stands to another.
-#[derive(Drop)]
+#[derive(Clone, Copy)]
 struct Probed {
     at: usize,
     order: Order,

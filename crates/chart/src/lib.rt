@@ -14,7 +14,7 @@ ghost use Rattle.chart_definitions.specs.Submissions.{request, is_right, Writes}
 use rules_forms::{is_batch, is_prefix};
 
 // Where writing stands: the position in the chart of the next record, the number that it gets, and the position of its line in the area.
-#[derive(Drop)]
+#[derive(Clone, Copy)]
 struct Spot {
     at: usize,
     number: usize,
@@ -22,7 +22,7 @@ struct Spot {
 }
 
 // What writing answers: 0, RECORD or ROOM; and the length of the file, 0 where it is refused.
-#[derive(Drop)]
+#[derive(Clone, Copy)]
 pub struct Answer {
     pub answer: u32,
     pub length: u32,

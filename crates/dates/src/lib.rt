@@ -8,13 +8,13 @@ ghost use Rattle.dates.specs.Dates.{first_year, last_year, is_leap, days_in, is_
 use house::all_digits;
 
 // A date, as the number YYYYMMDD, or an end that is open, as the number OPEN.
-#[derive(Drop)]
+#[derive(Clone, Copy)]
 pub struct Date {
     pub number: u32,
 }
 
 // What a text or a number reads as.
-#[derive(Drop)]
+#[derive(Clone, Copy)]
 pub enum Dated {
     Day(Date),
     NoDate,

@@ -15,7 +15,7 @@ pub const SLOT: usize = 38;
 pub(crate) const MOST_SLOTS: usize = 100000;
 
 // What the check of a ledger answers: how many events are live, or that it has not the form.
-#[derive(Drop)]
+#[derive(Clone, Copy)]
 pub enum Validity {
     Sound { live: usize },
     Malformed,

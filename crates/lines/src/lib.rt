@@ -9,7 +9,7 @@ pub use lines_fields::{field, field_position, find_field, has_field, lines_on};
 pub use lines_places::MOST_PLACES;
 
 // A file's shape: right, or the first line with a fault and its lowest cause.
-#[derive(Drop)]
+#[derive(Clone, Copy)]
 pub enum Shape {
     Right,
     Fault { line: usize, cause: u8 },

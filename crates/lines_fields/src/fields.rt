@@ -51,7 +51,7 @@ pub fn count_fields(text: &[u8]) -> usize
 }
 
 // Where a search for the start of a field has come to, and how many fields are left to pass.
-#[derive(Drop)]
+#[derive(Clone, Copy)]
 struct Passed {
     at: usize,
     left: usize,

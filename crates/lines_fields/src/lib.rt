@@ -16,7 +16,7 @@ pub use marks::{count_marked, judged, judged_at, judged_of, judged_span, part, r
 pub const MARKS: usize = 30;
 
 // A line in its file: where its text ends, where the next line starts, and whether an LF ends it.
-#[derive(Drop)]
+#[derive(Clone, Copy)]
 pub struct LineAt {
     pub end: usize,
     pub next: usize,
@@ -24,7 +24,7 @@ pub struct LineAt {
 }
 
 // A field in its file: whether it is there, where its text starts, and how long it is; 0 and 0 where it is not there.
-#[derive(Drop)]
+#[derive(Clone, Copy)]
 pub struct FieldPlace {
     pub there: bool,
     pub start: usize,
@@ -32,7 +32,7 @@ pub struct FieldPlace {
 }
 
 // A part of a text, from a position to another.
-#[derive(Drop)]
+#[derive(Clone, Copy)]
 pub struct Span {
     pub start: usize,
     pub end: usize,

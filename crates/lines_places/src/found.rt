@@ -21,7 +21,7 @@ const DATE_AND_PIPE: usize = 9;
 const ZERO: u64 = 48;
 
 // Where the three stand, and the number that ULI and date write one after the other.
-#[derive(Drop)]
+#[derive(Clone, Copy)]
 pub(crate) struct Found {
     pub number: u64,
     pub uli: usize,

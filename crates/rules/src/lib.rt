@@ -21,7 +21,7 @@ use rules_fields::Facts;
 pub use rules_walk::{MOST_BYTES, count_of, keep, part_of};
 
 // What a file is judged by, beside the book and the ledger: today, where the kinds of the book stand, and how many events are live.
-#[derive(Drop)]
+#[derive(Clone, Copy)]
 pub struct By {
     pub today: u32,
     pub sections: Sections,
@@ -35,7 +35,7 @@ const SHORT_FILE: usize = 16384;
 const FEW_LINES: usize = 16;
 
 // A day that a field gives: whether it is one, and its number.
-#[derive(Drop)]
+#[derive(Clone, Copy)]
 struct DayRead {
     sound: bool,
     number: u32,
@@ -46,7 +46,7 @@ struct DayRead {
 // block starts; where its own IE lines end, and those of its block's first II; what the table of repeats and the ledger say of it; and what
 // rules 12 to 14 ask of other lines: of an IE whether its antigen was given before, of an II whether its lot was, and whether its antigens
 // differ from those of its block's first.
-#[derive(Drop)]
+#[derive(Clone, Copy)]
 struct Here {
     kind: u8,
     historical: bool,
@@ -70,7 +70,7 @@ struct Here {
 // What a room for lists holds, each if it was made: up to `lots` the places of the file's lots, in order; from there to `firsts` those of a block's
 // first II's antigens with their counts, and whether all of these are sound; from there to `owns` those of an II's antigens. And how many IE
 // lines, and how many II lines of one block, have come one after the other: nothing but the choice between a scan and a list rests on that.
-#[derive(Drop)]
+#[derive(Clone, Copy)]
 struct Lists {
     lots: usize,
     lots_made: bool,
@@ -86,21 +86,21 @@ struct Lists {
 }
 
 // A list that was made: how many entries it has, and whether they fit.
-#[derive(Drop)]
+#[derive(Clone, Copy)]
 struct Made {
     n: usize,
     fits: bool,
 }
 
 // An answer, and what the room holds after it was asked for.
-#[derive(Drop)]
+#[derive(Clone, Copy)]
 struct Asked {
     lists: Lists,
     found: bool,
 }
 
 // The answers for a line, and what the room holds after they were asked for.
-#[derive(Drop)]
+#[derive(Clone, Copy)]
 struct Answers {
     lists: Lists,
     again: bool,
@@ -108,14 +108,14 @@ struct Answers {
 }
 
 // What is known of a line with the answers for it, and what the room holds after they were asked for.
-#[derive(Drop)]
+#[derive(Clone, Copy)]
 struct Answered {
     lists: Lists,
     here: Here,
 }
 
 // Fields 3, 4, 6 and 8 of an II, where they stand; nowhere where there is no such line.
-#[derive(Drop)]
+#[derive(Clone, Copy)]
 struct Open {
     uli: Span,
     kind: Span,
@@ -124,7 +124,7 @@ struct Open {
 }
 
 // What later lines ask of the nearest IP, II and IN: the ULI and the day of birth; whether II 5 is H, the vaccine and the day; and the day.
-#[derive(Drop)]
+#[derive(Clone, Copy)]
 struct Known {
     uli: Span,
     born: u32,
@@ -135,7 +135,7 @@ struct Known {
 }
 
 // The block that is open: its nearest II, where it starts, whether it has a second II, and the IE lines of its first.
-#[derive(Drop)]
+#[derive(Clone, Copy)]
 struct Block {
     last: Open,
     run: usize,
@@ -145,7 +145,7 @@ struct Block {
 
 // What is known at the start of a line: its number; its place, if it is numbered; what the nearest IP, II and IN give; where the IE lines just
 // before it start; the open block; how many IN lines there are so far.
-#[derive(Drop)]
+#[derive(Clone, Copy)]
 struct State {
     n: usize,
     place: usize,
@@ -156,7 +156,7 @@ struct State {
 }
 
 // A line that was read: where it starts, where the next one starts, and its kind.
-#[derive(Drop)]
+#[derive(Clone, Copy)]
 struct Read {
     at: usize,
     next: usize,
@@ -164,7 +164,7 @@ struct Read {
 }
 
 // Whether a line is in a block, whether it joins the open one, and where its block starts.
-#[derive(Drop)]
+#[derive(Clone, Copy)]
 struct BlockAt {
     inb: bool,
     joined: bool,
@@ -172,7 +172,7 @@ struct BlockAt {
 }
 
 // What a whole walk finds: how many blocks, findings and IN records.
-#[derive(Drop)]
+#[derive(Clone, Copy)]
 struct Walked {
     blocks: usize,
     findings: usize,
@@ -180,7 +180,7 @@ struct Walked {
 }
 
 // How many blocks, findings and IN records a file has; or the file is too long, or its blocks are too many, for the room lent.
-#[derive(Drop)]
+#[derive(Clone, Copy)]
 pub enum Judged {
     Done {
         blocks: usize,

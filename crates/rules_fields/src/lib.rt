@@ -10,7 +10,7 @@ pub use by_field::{
 pub use codes::{ANY_END, code_field};
 
 // Up to three rules that are broken at a field, 0 for none.
-#[derive(Drop)]
+#[derive(Clone, Copy)]
 pub struct Broken {
     pub a: u8,
     pub b: u8,
@@ -19,7 +19,7 @@ pub struct Broken {
 
 // The day of a record, which its codes are asked about: whether its field is sound, the number that it writes, and the day that a code is not
 // to have ended before.
-#[derive(Drop)]
+#[derive(Clone, Copy)]
 pub struct Day {
     pub sound: bool,
     pub number: u32,
@@ -28,7 +28,7 @@ pub struct Day {
 
 // What is known of an II: whether it is in a block, whether it joins the open one, whether an earlier block names its event, and whether
 // its event is live.
-#[derive(Drop)]
+#[derive(Clone, Copy)]
 pub struct Facts {
     pub inb: bool,
     pub joined: bool,

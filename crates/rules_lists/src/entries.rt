@@ -23,7 +23,7 @@ pub const COUNTED_ANTIGENS: u8 = 1;
 pub const LOTS: u8 = 2;
 
 // An entry, or none.
-#[derive(Drop)]
+#[derive(Clone, Copy)]
 struct Entry {
     is: bool,
     number: u32,

@@ -14,7 +14,7 @@ pub use repeats::{is_noted, note_repeats};
 pub const MOST_BYTES: usize = 5000000;
 
 // An index is in order, of so many blocks, and whether no two of them name one event; or there are too many.
-#[derive(Drop)]
+#[derive(Clone, Copy)]
 pub enum Built {
     Blocks { blocks: usize, distinct: bool },
     TooMany,

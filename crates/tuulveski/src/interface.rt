@@ -9,7 +9,7 @@ use answers::Answer;
 
 // The numbers of an answer, those that it does not name being 0.
 #[repr(C)]
-#[derive(Drop)]
+#[derive(Clone, Copy)]
 pub struct Numbers {
     pub answer: u32,
     pub line: u32,
@@ -23,7 +23,7 @@ pub struct Numbers {
 
 // A field: whether it is there, where its text starts in the file, and how long it is.
 #[repr(C)]
-#[derive(Drop)]
+#[derive(Clone, Copy)]
 pub struct FieldAt {
     pub present: bool,
     pub start: usize,
@@ -32,7 +32,7 @@ pub struct FieldAt {
 
 // A line: its number, counted from 1, and where it starts in the file.
 #[repr(C)]
-#[derive(Drop)]
+#[derive(Clone, Copy)]
 pub struct LineFrom {
     pub line: usize,
     pub start: usize,
@@ -40,7 +40,7 @@ pub struct LineFrom {
 
 // What writing answers, and the length of the file, 0 where it is refused.
 #[repr(C)]
-#[derive(Drop)]
+#[derive(Clone, Copy)]
 pub struct Written {
     pub answer: u32,
     pub length: u32,

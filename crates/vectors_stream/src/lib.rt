@@ -5,7 +5,7 @@ ghost use Rattle.vectors_stream.specs.Parts.{PartIs};
 pub use house::number_at;
 
 // Where a part's bytes start and end; 0 and 0 where no whole part stands.
-#[derive(Drop)]
+#[derive(Clone, Copy)]
 pub struct Part {
     pub start: usize,
     pub end: usize,
