@@ -1,4 +1,6 @@
 // The line reader: the kinds of records, their order, and a file's shape; and, of the crates below, the field of a line.
+#![tactic(auto)]
+
 mod bytes;
 mod faults;
 mod kinds;
