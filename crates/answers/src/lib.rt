@@ -1,4 +1,6 @@
 // The check of a submission, in the order of its answers: one call over file, code book, ledger, findings area and today's date.
+#![tactic(auto)]
+
 mod settle;
 mod steps;
 

@@ -1,4 +1,6 @@
 // The code book: a reader of its entries, whether it is well formed, and what it says of a code on a day.
+#![tactic(auto)]
+
 mod codes;
 mod days;
 mod forms;

@@ -1,4 +1,6 @@
 // A submission written from a chart.
+#![tactic(auto)]
+
 mod areas;
 mod arrange;
 mod files;

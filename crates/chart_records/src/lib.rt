@@ -1,4 +1,6 @@
 // Charts as they are read: kinds, widths, form, and how long the written lines are.
+#![tactic(auto)]
+
 mod form;
 mod kinds;
 mod lengths;

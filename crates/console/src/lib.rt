@@ -1,4 +1,6 @@
 // The program that document 01 calls `check`: what it reads, what it answers, and what it prints.
+#![tactic(auto)]
+
 mod input;
 mod output;
 

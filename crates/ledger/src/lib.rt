@@ -1,4 +1,6 @@
 // The ledger: its form, the look-up of an event, and what an accepted file does to it.
+#![tactic(auto)]
+
 mod find;
 mod form;
 mod slots;

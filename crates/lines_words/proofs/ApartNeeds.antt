@@ -83,11 +83,11 @@ module _ (key : ℕ → Text) (l : List ℕ) where
     keep_over h = c.area ∙ ap (λ (k : List ℕ). over k l) (sym (all_kept (omega (arith, keep_size))))
 
     pub keep_fits : n ≤ i
-    keep_fits = c.ranges
+    keep_fits = c.fits
 
     module _ (h : i < length a) (r : Bool) (q : r ≡ same (key e) (key (get_or a i 0))) where
       here : get_or a i 0 ≡ get_or l i 0
-      here = ap (λ (m : List ℕ). get_or m i 0) c.area ∙ over_past c.kept l i (omega (arith, c.count, c.ranges))
+      here = ap (λ (m : List ℕ). get_or m i 0) c.area ∙ over_past c.kept l i (omega (arith, c.count, c.fits))
 
       next : drop i l ≡ get_or a i 0 ∷ drop (i + 1) l
       next = rw here (drop_here l i (omega (arith, keep_size)))
@@ -98,7 +98,7 @@ module _ (key : ℕ → Text) (l : List ℕ) where
         count = c.count;
         area = c.area;
         whole = c.whole ∙ ap (λ (m : List ℕ). c.kept ++ m) (ap (apart_after key e) next ∙ after_skip key e (get_or a i 0) (drop (i + 1) l) (sym q ∙ z));
-        fits = omega (arith, c.ranges);
+        fits = omega (arith, c.fits);
       }
 
       pub keep_one : r ≡ false → Keeping key l (set a n (get_or a i 0)) (get_or a i 0) (n + 1) (i + 1)
@@ -111,7 +111,7 @@ module _ (key : ℕ → Text) (l : List ℕ) where
             whole =
                 c.whole ∙ ap (λ (m : List ℕ). c.kept ++ m) (ap (apart_after key e) next ∙ after_keep key e f (drop (i + 1) l) (sym q ∙ z))
                 ∙ sym (append_assoc c.kept (f ∷ []) (apart_after key f (drop (i + 1) l)));
-            fits = omega (arith, c.ranges);
+            fits = omega (arith, c.fits);
           }
 
 pub ruleset for_keep_apart = (rules, keep_none, keep_area, keep_start, keep_size, keep_count, keep_over, keep_fits, keep_skip, keep_one)

@@ -1,4 +1,6 @@
 // Words of a file, or records of a chart, by their places: entries put in the order of a key, and what is asked of them then.
+#![tactic(auto)]
+
 mod asked;
 mod events;
 mod hashes;

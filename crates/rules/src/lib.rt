@@ -1,4 +1,6 @@
 // Judging a file: every broken rule of every field, once, in order; the findings counted, and those that fit written.
+#![tactic(auto)]
+
 mod antigens;
 mod blocks;
 mod emit;

@@ -1,4 +1,6 @@
 // Which rules are broken at a field, by its text, where there is more than one or the book is asked.
+#![tactic(auto)]
+
 mod by_field;
 mod by_rule;
 mod codes;

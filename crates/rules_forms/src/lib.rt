@@ -1,5 +1,7 @@
 // The forms of texts and fields: what one text decides alone, which form each field takes, which are mandatory, when one is sound, and when an
 // event is relaxed.
+#![tactic(auto)]
+
 mod classes;
 mod fields;
 mod texts;

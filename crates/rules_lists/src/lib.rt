@@ -1,4 +1,6 @@
 // What is asked of the lines of a part of the file: antigens, counts and lots given before.
+#![tactic(auto)]
+
 mod entries;
 
 ghost use Rattle.std.specs.Prelude.{◌≡◌};

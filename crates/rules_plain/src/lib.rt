@@ -1,4 +1,6 @@
 // The lowest rule that is broken at a field that asks neither book nor ledger, by its text; 0 for none.
+#![tactic(auto)]
+
 ghost use Rattle.std.specs.Prelude.{false, ◌&&◌, ◌≡◌, ltb, leb, length};
 ghost use Rattle.house.specs.Text.{within};
 ghost use Rattle.lines.specs.Records.{IV, IP, II, IN, IA};

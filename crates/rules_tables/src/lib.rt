@@ -1,4 +1,6 @@
 // Sites, methods and reasons: the codes that need no book, and rule 9 between a site and a method.
+#![tactic(auto)]
+
 mod methods;
 mod sites;
 

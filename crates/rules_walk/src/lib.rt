@@ -1,5 +1,7 @@
 // Blocks of II lines, and their index: where the first II line of each block starts, by event; those of them whose event an
 // earlier block names, and its parts by submission type.
+#![tactic(auto)]
+
 mod blocks;
 mod index;
 mod parts;

@@ -1,4 +1,6 @@
 // The check of a submission, and the writing of one, as C calls them.
+#![tactic(auto)]
+
 mod interface;
 
 pub use interface::{

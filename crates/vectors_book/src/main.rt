@@ -1,6 +1,8 @@
 // Runs the code book on the vectors of its standard input, and prints what it answers. A case is two parts: a book, and what is asked of it,
 // itself a stream of parts, three for each: one byte of kind, four of the day and four of the second day; a code; a second
 // code.
+#![tactic(auto)]
+
 use book::{Found, Position, Read, Sections, Standing, Validity};
 
 fn main() {

@@ -1,5 +1,7 @@
 // Runs the ledger, the book and the sort at the largest size that each takes and at the next, and prints what they answer. Standard input has
 // four parts: two books, a file, and the places of three of its lines, four bytes each.
+#![tactic(auto)]
+
 ghost use Rattle.std.specs.Prelude.{◌≤◌};
 
 fn main() {

@@ -1,5 +1,7 @@
 // Runs the house records on the vectors of its standard input, and prints what they answer. A case is four parts: one byte that says what
 // is asked, and three texts.
+#![tactic(auto)]
+
 use dates::{Date, Dated};
 use house::{Key, Order};
 

@@ -1,5 +1,7 @@
 // Runs the ledger and the sort on the vectors of its standard input, and prints what they answer. A case is two parts: a ledger, and a stream
 // of three parts: a file, and the places in it of lines whose events are to be added and deleted, four bytes each.
+#![tactic(auto)]
+
 use ledger::Validity;
 
 fn main() {

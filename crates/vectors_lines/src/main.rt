@@ -1,5 +1,7 @@
 // Runs the line reader on the files of its standard input, and prints what it answers. A case is two parts: a file, and pairs of bytes that
 // ask for a field of a line.
+#![tactic(auto)]
+
 use lines::Shape;
 
 fn main() {

@@ -1,5 +1,7 @@
 // Judges the files of its standard input, and prints what it finds. A case is two parts: a file, and a stream of three: four bytes each for
 // today, how many blocks there is room for and how long the findings area is; a book; a ledger.
+#![tactic(auto)]
+
 use book::Sections;
 use rules::{By, Judged};
 

@@ -1,4 +1,6 @@
 // A stream of parts for the programs that run vectors: each part is four bytes of length, lowest first, and as many bytes.
+#![tactic(auto)]
+
 ghost use Rattle.std.specs.Prelude.{◌≡◌};
 ghost use Rattle.vectors_stream.specs.Parts.{PartIs};
 
