@@ -1,0 +1,29 @@
+use Rattle.book.proofs.LayoutLaws.{for_layout_of}
+use Rattle.book.proofs.Sections.layout_of.Goals as goal
+
+pub returns-in-1 : goal.returns-in-1
+returns-in-1 c = search for_layout_of
+
+pub returns-in-2 : goal.returns-in-2
+returns-in-2 c = search for_layout_of
+
+pub returns-in-3 : goal.returns-in-3
+returns-in-3 c = search for_layout_of
+
+pub returns-in-4 : goal.returns-in-4
+returns-in-4 c = search for_layout_of
+
+pub returns-in-5 : goal.returns-in-5
+returns-in-5 c = search for_layout_of
+
+pub returns-in-6 : goal.returns-in-6
+returns-in-6 c = search for_layout_of
+
+pub returns-in-7 : goal.returns-in-7
+returns-in-7 c = search for_layout_of
+
+pub returns-in-8 : goal.returns-in-8
+returns-in-8 c = search for_layout_of
+
+pub returns-in_default : goal.returns-in_default
+returns-in_default c = search for_layout_of
