@@ -1,0 +1,20 @@
+use Rattle.chart_records.proofs.KindNeeds.{for_body_width}
+use Rattle.chart_records.proofs.kinds.body_width.Goals as goal
+
+pub returns-in-3 : goal.returns-in-3
+returns-in-3 c = search for_body_width
+
+pub returns-in-4 : goal.returns-in-4
+returns-in-4 c = search for_body_width
+
+pub returns-in-5 : goal.returns-in-5
+returns-in-5 c = search for_body_width
+
+pub returns-in-6 : goal.returns-in-6
+returns-in-6 c = search for_body_width
+
+pub returns-in-7 : goal.returns-in-7
+returns-in-7 c = search for_body_width
+
+pub returns-in_default : goal.returns-in_default
+returns-in_default c = search for_body_width
