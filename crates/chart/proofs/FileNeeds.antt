@@ -107,13 +107,13 @@ module _ (p b s a : Text) (h : is_right (request p b s a) ≡ true) where
       let u = both (within 1 most (length t)) (all is_letter_or_digit t) e in
       leb-true (length t) most (both (leb 1 (length t)) (leb (length t) most) u.0).1
 
-  pub right-prefix : length p ≤ 3
+  pub right_prefix : length p ≤ 3
   unfolding is_prefix
-  right-prefix = run_long 3 p right_parts.0
+  right_prefix = run_long 3 p right_parts.0
 
-  pub right-batch : length b ≤ 10
+  pub right_batch : length b ≤ 10
   unfolding is_batch
-  right-batch = run_long 10 b right_parts.1.0
+  right_batch = run_long 10 b right_parts.1.0
 
   pub right_formed : all well_formed (charted_in s) ≡ true
   unfolding is_chart

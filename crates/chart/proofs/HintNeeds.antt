@@ -16,13 +16,13 @@ use Rattle.chart.proofs.EventLaws.{event_index, event_there}
 pub ruleset for_hash_lots = (rules)
 
 -- ARRANGE_LOTS
-pub room-count : (room : List ℕ) (n : ℕ) → n ≤ length room → length (take n room) ≡ n
-room-count room n h = length-take-le n room h
+pub room_count : (room : List ℕ) (n : ℕ) → n ≤ length room → length (take n room) ≡ n
+room_count room n h = length-take-le n room h
 
-pub room-kept : (a b : List ℕ) (n : ℕ) → length b ≡ length a → n ≤ length a → n ≤ length b
-room-kept a b n e h = omega (arith, e, h)
+pub room_kept : (a b : List ℕ) (n : ℕ) → length b ≡ length a → n ≤ length a → n ≤ length b
+room_kept a b n e h = omega (arith, e, h)
 
-pub ruleset for_arrange_lots = (rules, same_refl, room-count, room-kept)
+pub ruleset for_arrange_lots = (rules, same_refl, room_count, room_kept)
 
 -- ORDER_LOTS
 pub order_same : (key : ℕ → Text) (a b c : List ℕ) → SameEntries a b → c ≡ in_order key b → c ≡ in_order key a

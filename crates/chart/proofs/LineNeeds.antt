@@ -97,9 +97,9 @@ module _ (s : Text) (at kind end n : ℕ) (wf : well_formed (charted_at s at) �
       let z : end - (at + 1) ≡ body_width kind = omega (arith, ends) in
       ap (λ (m : ℕ). take m (drop (at + 1) s)) z ∙ ap (λ (k : ℕ). take (body_width k) (drop (at + 1) s)) ek
 
-  pub record-body : length (take (end - (at + 1)) (drop (at + 1) s)) ≡ body_width kind
+  pub record_body : length (take (end - (at + 1)) (drop (at + 1) s)) ≡ body_width kind
   unfolding charted_at
-  record-body = ap length body_is ∙ formed_body (charted_at s at) wf ∙ ap body_width (sym ek)
+  record_body = ap length body_is ∙ formed_body (charted_at s at) wf ∙ ap body_width (sym ek)
 
   parts : record_text n (charted_at s at) ≡ start_text kind n ++ (fields_text kind (take (end - (at + 1)) (drop (at + 1) s)) ++ (10 ∷ []))
   unfolding charted_at
@@ -147,4 +147,4 @@ module _ (s : Text) (at kind end n : ℕ) (wf : well_formed (charted_at s at) �
         record_next r h = omega (arith, h, long, em, el)
 
 pub ruleset for-put-record =
-    (rules, record_typed, record_end_lem, record_from, record_small, record-body, record_start_room, record_fields_room, record_lf_room, record_put, record_next)
+    (rules, record_typed, record_end_lem, record_from, record_small, record_body, record_start_room, record_fields_room, record_lf_room, record_put, record_next)

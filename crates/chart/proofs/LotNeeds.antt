@@ -98,20 +98,20 @@ pub ruleset for_gather =
 
 -- IS_FIRST
 module _ (s : Text) (es : List ℕ) (i : ℕ) where
-  pub leads-none : i ≡ 0 → true ≡ leads (event_at s) es i
+  pub leads_none : i ≡ 0 → true ≡ leads (event_at s) es i
   unfolding leads
-  leads-none e = rw (eq-eqb _ _ e)
+  leads_none e = rw (eq-eqb _ _ e)
 
   module _ (n : i ≡ 0 → ⊥) (t : Bool) (q : t ≡ same (key_at 2 s (get_or es (i - 1) 0)) (key_at 2 s (get_or es i 0))) where
-    pub leads-not : t ≡ true → false ≡ leads (event_at s) es i
+    pub leads_not : t ≡ true → false ≡ leads (event_at s) es i
     unfolding leads event_at
-    leads-not z = rw (ne_eqb _ _ n, ← q, z)
+    leads_not z = rw (ne_eqb _ _ n, ← q, z)
 
-    pub leads-here : t ≡ false → true ≡ leads (event_at s) es i
+    pub leads_here : t ≡ false → true ≡ leads (event_at s) es i
     unfolding leads event_at
-    leads-here z = rw (ne_eqb _ _ n, ← q, z)
+    leads_here z = rw (ne_eqb _ _ n, ← q, z)
 
-pub ruleset for-is-first = (rules, leads-none, leads-not, leads-here)
+pub ruleset for_is_first = (rules, leads_none, leads_not, leads_here)
 
 -- PUT_LOT
 
@@ -183,8 +183,8 @@ module _ (s : Text) (es : List ℕ) (i p : ℕ) where
     pub upto : j ≤ length es
     pub seen : run ≡ take (j - i) (drop i es) ++ front (like (event_at s) p) (drop j es)
 
-  pub ending-start : i < length es → Ending i
-  ending-start h =
+  pub ending_start : i < length es → Ending i
+  ending_start h =
       let e : i - i ≡ 0 = omega arith in
       record { from = omega arith; upto = omega arith; seen = ap (λ (n : ℕ). take n (drop i es) ++ run) (sym e) }
 
@@ -207,8 +207,8 @@ module _ (s : Text) (es : List ℕ) (i p : ℕ) where
           ∙ take-suc (drop i es) (j - i) 0 (omega (arith, length-drop i es, g.from, h))
           ∙ ap (λ (x : ℕ). take (j - i) (drop i es) ++ (x ∷ [])) (get_or-drop i es (j - i) 0 ∙ ap (λ (n : ℕ). get_or es n 0) b)
 
-      pub ending-on : t ≡ true → Ending (j + 1)
-      ending-on z =
+      pub ending_on : t ≡ true → Ending (j + 1)
+      ending_on z =
           record {
             from = omega (arith, g.from);
             upto = omega (arith, h);
@@ -218,14 +218,14 @@ module _ (s : Text) (es : List ℕ) (i p : ℕ) where
                 ∙ ap (λ (l : List ℕ). l ++ front (like (event_at s) p) (drop (j + 1) es)) (sym more);
           }
 
-      pub ending-stop : t ≡ false → take (j - i) (drop i es) ≡ run
-      ending-stop z = sym (g.seen ∙ ap (λ (l : List ℕ). take (j - i) (drop i es) ++ l) (front_none z) ∙ append-nil (take (j - i) (drop i es)))
+      pub ending_stop : t ≡ false → take (j - i) (drop i es) ≡ run
+      ending_stop z = sym (g.seen ∙ ap (λ (l : List ℕ). take (j - i) (drop i es) ++ l) (front_none z) ∙ append-nil (take (j - i) (drop i es)))
 
-    pub ending-end : length es ≤ j → take (j - i) (drop i es) ≡ run
-    ending-end h =
+    pub ending_end : length es ≤ j → take (j - i) (drop i es) ≡ run
+    ending_end h =
         sym (g.seen ∙ ap (λ (l : List ℕ). take (j - i) (drop i es) ++ front (like (event_at s) p) l) (drop_past es j h) ∙ append-nil (take (j - i) (drop i es)))
 
-pub ruleset for_run_end = (rules, ending-start, ending-on, ending-stop, ending-end)
+pub ruleset for_run_end = (rules, ending_start, ending_on, ending_stop, ending_end)
 
 -- PUT_RUN
 module _ (s : Text) (es : List ℕ) (i end p : ℕ) (e : take (end - i) (drop i es) ≡ front (like (event_at s) p) (drop i es)) where

@@ -103,7 +103,7 @@ module _ (s : Text) (spot : Spot) (before : Text) (c : Can (behind_at s spot.at)
           rest = v.rest ∙ ap (after_front (of_kinds IN IA)) u.rest;
         }
 
-pub ruleset for-put-behind = (rules, behind_puts)
+pub ruleset for_put_behind = (rules, behind_puts)
 
 pub ruleset for_behind_lots = (behind_formed, behind_short, behind_few, behind_lots)
 

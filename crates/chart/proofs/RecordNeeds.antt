@@ -117,12 +117,12 @@ fields_here : (k i from : ℕ) (body : Text) → i < length (widths_of k)
 unfolding fields_left
 fields_here k i from body h = rw (cut_here (widths_of k) i body from h)
 
-sum-here : (ws : List ℕ) (i : ℕ) → i < length ws → sum (drop i ws) ≡ get_or ws i 0 + sum (drop (i + 1) ws)
-sum-here ws i h = rw (drop_here ws i h)
+sum_here : (ws : List ℕ) (i : ℕ) → i < length ws → sum (drop i ws) ≡ get_or ws i 0 + sum (drop (i + 1) ws)
+sum_here ws i h = rw (drop_here ws i h)
 
-pub body-most : (k : ℕ) → body_width k ≤ 1699
+pub body_most : (k : ℕ) → body_width k ≤ 1699
 unfolding body_width widths_of
-body-most k = go (eqb k IP) (eqb k II) (eqb k IE) (eqb k IN) (eqb k IA)
+body_most k = go (eqb k IP) (eqb k II) (eqb k IE) (eqb k IN) (eqb k IA)
   where
     go : (p i e n a : Bool) → sum (cond p ip_widths (cond i ii_widths (cond e ie_widths (cond n in_widths (cond a ia_widths []))))) ≤ 1699
     go true i e n a = omega arith
@@ -138,10 +138,10 @@ module _ (k at : ℕ) (body before : Text) (i from pos : ℕ) (area : Text) (f :
     there = omega (arith, h, c)
 
     pub fields_part : from + w ≤ length body
-    fields_part = omega (arith, f.wide, e, sum-here (widths_of k) i there)
+    fields_part = omega (arith, f.wide, e, sum_here (widths_of k) i there)
 
-    pub fields-small : length body ≡ body_width k → from + w < 18446744073709551616
-    fields-small b = omega (arith, fields_part, b, body-most k)
+    pub fields_small : length body ≡ body_width k → from + w < 18446744073709551616
+    fields_small b = omega (arith, fields_part, b, body_most k)
 
     module _ (t : Text) (q : t ≡ trimmed (take (from + w - from) (drop from body))) where
       same_part : t ≡ trimmed (take (get_or (widths_of k) i 0) (drop from body))
@@ -163,7 +163,7 @@ module _ (k at : ℕ) (body before : Text) (i from pos : ℕ) (area : Text) (f :
       pub fields_on : (next : Text) (p : ℕ) → next ≡ over_from pos (piped t) area → p ≡ pos + length t + 1 → Fields k at body before (i + 1) (from + w) p next
       fields_on next p u v =
           record {
-            wide = omega (arith, f.wide, e, sum-here (widths_of k) i there);
+            wide = omega (arith, f.wide, e, sum_here (widths_of k) i there);
             long = ap length u ∙ length_over_from pos (piped t) area ∙ f.long;
             upto = omega (arith, f.upto, long_here, v);
             area_on =
@@ -187,7 +187,7 @@ module _ (k at : ℕ) (body before : Text) (i from pos : ℕ) (area : Text) (f :
     pub fields_last : pos ≡ at + length (fields_text k body)
     fields_last = omega (arith, f.upto, ap length none)
 
-pub fields-long : (k at : ℕ) (body before : Text) (i from pos : ℕ) (area : Text) → Fields k at body before i from pos area → length area ≡ length before
-fields-long k at body before i from pos area f = f.long
+pub fields_long : (k at : ℕ) (body before : Text) (i from pos : ℕ) (area : Text) → Fields k at body before i from pos area → length area ≡ length before
+fields_long k at body before i from pos area f = f.long
 
-pub ruleset for-put-fields = (rules, fields_start, fields_part, fields-small, fields_room, fields_on, fields_end, fields_last, fields-long)
+pub ruleset for_put_fields = (rules, fields_start, fields_part, fields_small, fields_room, fields_on, fields_end, fields_last, fields_long)

@@ -24,7 +24,7 @@ use Rattle.chart.specs.Inside.{Can, Puts, spot_at, Patients, head_text, foot_tex
 use Rattle.chart.proofs.GoingLaws.{text_most}
 use Rattle.chart.proofs.RecordNeeds.{behind, still}
 use Rattle.chart.proofs.BoundLaws.{chart_bound}
-use Rattle.chart.proofs.FileNeeds.{in_order_of, file_parts, file_long, head_long, right-prefix, right-batch, right_formed, right_order}
+use Rattle.chart.proofs.FileNeeds.{in_order_of, file_parts, file_long, head_long, right_prefix, right_batch, right_formed, right_order}
 
 -- the lesser of two numbers
 least : (m n k : ℕ) → k ≡ lesser_of m n → (k ≤ m) × ((k ≤ n) × ((l : ℕ) → l ≤ m → l ≤ n → l ≤ k))
@@ -62,11 +62,11 @@ module _ (p b s : Text) (right : is_right (request p b s []) ≡ true) where
         length-append (records_text 1 (charted_in s)) (line_text (footer_fields (length (charted_in s) + other_lines))),
       )
 
-  pub room-head : 14 + length p < 18446744073709551616
-  room-head = omega (arith, right-prefix p b s [] right)
+  pub room_head : 14 + length p < 18446744073709551616
+  room_head = omega (arith, right_prefix p b s [] right)
 
-  pub room-head-on : 14 + length p + length b < 18446744073709551616
-  room-head-on = omega (arith, right-prefix p b s [] right, right-batch p b s [] right)
+  pub room_head_on : 14 + length p + length b < 18446744073709551616
+  room_head_on = omega (arith, right_prefix p b s [] right, right_batch p b s [] right)
 
   module _ (room most head : ℕ) (m : most ≡ lesser_of room 5000000) (h : head ≡ 14 + length p + length b) where
     pub room_none : most < head → false ≡ fits_room p b s room
@@ -82,7 +82,7 @@ module _ (p b s : Text) (right : is_right (request p b s []) ≡ true) where
         long : head + length (records_text 1 (charted_in s) ++ line_text (footer_fields (length (charted_in s) + other_lines))) ≡ length (file_of (request p b s []))
         long = omega (arith, h, whole_long)
 
-pub ruleset for-has-room = (rules, room-head, room-head-on, room_none, room_some)
+pub ruleset for_has_room = (rules, room_head, room_head_on, room_none, room_some)
 
 -- PUT_FILE
 module _ (p b s a : Text) (f : Fitting p b s a) where
@@ -170,15 +170,15 @@ module _ (p b s : Text) where
   unfolding is_right
   right_none u e z = rw (← e, z)
 
-  pub right-no-batch : (u v : Bool) → u ≡ is_prefix p → u ≡ true → v ≡ is_batch b → v ≡ false → false ≡ is_right (request p b s [])
+  pub right_no_batch : (u v : Bool) → u ≡ is_prefix p → u ≡ true → v ≡ is_batch b → v ≡ false → false ≡ is_right (request p b s [])
   unfolding is_right
-  right-no-batch u v e z f w = rw (← e, z, ← f, w)
+  right_no_batch u v e z f w = rw (← e, z, ← f, w)
 
-  pub right-chart : (u v r : Bool) → u ≡ is_prefix p → u ≡ true → v ≡ is_batch b → v ≡ true → r ≡ is_chart s → r ≡ is_right (request p b s [])
+  pub right_chart : (u v r : Bool) → u ≡ is_prefix p → u ≡ true → v ≡ is_batch b → v ≡ true → r ≡ is_chart s → r ≡ is_right (request p b s [])
   unfolding is_right
-  right-chart u v r e z f w g = rw (← e, z, ← f, w) g
+  right_chart u v r e z f w g = rw (← e, z, ← f, w) g
 
-pub ruleset for-is-right = (rules, right_none, right-no-batch, right-chart)
+pub ruleset for_is_right = (rules, right_none, right_no_batch, right_chart)
 
 -- WRITE
 module _ (p b s a : Text) where
@@ -224,18 +224,18 @@ module _ (p b s a : Text) where
       flip false = refl
 
   module _ (u : Bool) (e : u ≡ is_right (request p b s [])) where
-    pub write-record : u ≡ false → Writes (request p b s a) 8 0 a
+    pub write_record : u ≡ false → Writes (request p b s a) 8 0 a
     unfolding write
-    write-record z = rw (same_right, ← e, z)
+    write_record z = rw (same_right, ← e, z)
 
     module _ (z : u ≡ true) where
-      pub write-right : is_right (request p b s []) ≡ true
-      write-right = sym e ∙ z
+      pub write_right : is_right (request p b s []) ≡ true
+      write_right = sym e ∙ z
 
       module _ (v : Bool) (f : v ≡ fits_room p b s (length a)) where
-        pub write-room : v ≡ false → Writes (request p b s a) 9 0 a
+        pub write_room : v ≡ false → Writes (request p b s a) 9 0 a
         unfolding write
-        write-room w = rw (same_right, ← e, z, too_long, ← f, w)
+        write_room w = rw (same_right, ← e, z, too_long, ← f, w)
 
         module _ (w : v ≡ true) where
           pub write_fits : Fitting p b s a
@@ -252,4 +252,4 @@ module _ (p b s a : Text) where
               (ap (λ (n : ℕ). leaves 0 n c) g
               ∙ ap (leaves 0 (length (file_of (request p b s [])))) (h ∙ over_from_start (file_of (request p b s [])) a (fits_area p b s a write_fits)))
 
-pub ruleset for_write = (rules, write-record, write-right, write-room, write_fits, write_small, write_done)
+pub ruleset for_write = (rules, write_record, write_right, write_room, write_fits, write_small, write_done)

@@ -69,19 +69,19 @@ module _ (t : Text) (i l h : ℕ) (x : Bool) (inv : x ≡ fields_in l h (drop i 
       (in_turn (ltb l 32) (ltb 126 h) (ltb (get_or t i 0) 32) (ltb 126 (lifted_of (get_or t i 0))) (all is_field_byte (drop (i + 1) t)))
 
   module _ (k : length t ≤ i) where
-    pub fields-low : l < 32 → false ≡ x
+    pub fields_low : l < 32 → false ≡ x
     unfolding fields_in
-    fields-low m = rw (inv, lt-ltb _ _ m)
+    fields_low m = rw (inv, lt-ltb _ _ m)
 
-    pub fields-high : 32 ≤ l → leb h 126 ≡ x
+    pub fields_high : 32 ≤ l → leb h 126 ≡ x
     unfolding fields_in
-    fields-high m = rw (inv, le-ltb _ _ m, drop_past t i k) (go (ltb 126 h) refl)
+    fields_high m = rw (inv, le-ltb _ _ m, drop_past t i k) (go (ltb 126 h) refl)
       where
         go : (u : Bool) → ltb 126 h ≡ u → leb h 126 ≡ cond u false true
         go true e = lt-leb h 126 (ltb-true 126 h e)
         go false e = le-leb h 126 (ltb-false 126 h e)
 
-pub ruleset for-is-field-bytes = (rules, fields_start, fields_on, fields-low, fields-high)
+pub ruleset for_is_field_bytes = (rules, fields_start, fields_on, fields_low, fields_high)
 
 -- is_right_at
 and-false : (u : Bool) → false ≡ (u && false)
@@ -108,9 +108,9 @@ module _ (p at k : ℕ) (s : Text) (ek : k ≡ record_kind (get_or s at 0)) (f :
         go true v = refl
         go false v = refl
 
-    pub right-bytes : (r : Bool) → at < length s → f ≡ true → w ≤ length s - (at + 1) → r ≡ all is_field_byte (take (at + 1 + w - (at + 1)) (drop (at + 1) s)) → r ≡ right_after p (charted_at s at)
+    pub right_bytes : (r : Bool) → at < length s → f ≡ true → w ≤ length s - (at + 1) → r ≡ all is_field_byte (take (at + 1 + w - (at + 1)) (drop (at + 1) s)) → r ≡ right_after p (charted_at s at)
     unfolding right_after charted_at well_formed
-    right-bytes r l z h e =
+    right_bytes r l z h e =
         let c : at + 1 + w - (at + 1) ≡ w = omega arith in
         let n : k ≡ 0 → ⊥ = λ q. clash (cc (follows_none p k q)) in
         let m : length (take w (drop (at + 1) s)) ≡ w = length-take-le w (drop (at + 1) s) (omega (arith, length-drop (at + 1) s)) in
@@ -120,7 +120,7 @@ module _ (p at k : ℕ) (s : Text) (ek : k ≡ record_kind (get_or s at 0)) (f :
         go true = refl
         go false = refl
 
-pub ruleset for-is-right-at = (rules, right_order, right_short, right-bytes)
+pub ruleset for_is_right_at = (rules, right_order, right_short, right_bytes)
 
 -- is_chart
 right_cons : (p : ℕ) (r : Charted) (rs : List Charted) → right_from p (r ∷ rs) ≡ (right_after p r && right_from r.kind rs)
@@ -138,19 +138,19 @@ right_none : (p : ℕ) → right_from p [] ≡ follows p IF
 unfolding right_from ordered
 right_none p = refl
 
-pub chart-start : (s : Text) → is_chart s ≡ right_from IH (charted_in (drop 0 s))
+pub chart_start : (s : Text) → is_chart s ≡ right_from IH (charted_in (drop 0 s))
 unfolding is_chart right_from
-chart-start s = refl
+chart_start s = refl
 
 module _ (s : Text) (at p : ℕ) (x : Bool) (inv : x ≡ right_from p (charted_in (drop at s))) where
   module _ (h : at < length s) (b : Bool) (eb : b ≡ right_after p (charted_at s at)) where
-    pub chart-on : (k e : ℕ) → b ≡ true → k ≡ record_kind (get_or s at 0) → e ≡ record_end s at → x ≡ right_from k (charted_in (drop e s))
-    chart-on k e z ek ee = inv ∙ rw (charted_on s at h, right_cons, ← eb, z, at_kind, ← ek, ← ee)
+    pub chart_on : (k e : ℕ) → b ≡ true → k ≡ record_kind (get_or s at 0) → e ≡ record_end s at → x ≡ right_from k (charted_in (drop e s))
+    chart_on k e z ek ee = inv ∙ rw (charted_on s at h, right_cons, ← eb, z, at_kind, ← ek, ← ee)
 
-    pub chart-wrong : b ≡ false → false ≡ x
-    chart-wrong z = rw (inv, charted_on s at h, right_cons, ← eb, z)
+    pub chart_wrong : b ≡ false → false ≡ x
+    chart_wrong z = rw (inv, charted_on s at h, right_cons, ← eb, z)
 
-  pub chart-end : (r : Bool) → length s ≤ at → r ≡ follows p IF → r ≡ x
-  chart-end r h e = rw (inv, charted_end s at h, right_none) e
+  pub chart_end : (r : Bool) → length s ≤ at → r ≡ follows p IF → r ≡ x
+  chart_end r h e = rw (inv, charted_end s at h, right_none) e
 
-pub ruleset for-is-chart = (rules, chart-start, chart-on, chart-wrong, chart-end, end_within, end_falls)
+pub ruleset for_is_chart = (rules, chart_start, chart_on, chart_wrong, chart_end, end_within, end_falls)

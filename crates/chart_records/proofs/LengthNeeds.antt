@@ -20,7 +20,7 @@ use Rattle.lines.specs.Records.{IP, II, IE, IN, IA}
 use Rattle.chart_definitions.specs.Charts.{Charted, record_kind, widths_of, body_width, charted_in}
 use Rattle.chart_definitions.specs.Submissions.{type_text, line_text, record_text, records_text, footer_fields}
 use Rattle.chart_records.specs.Reading.{record_end, fits_in}
-use Rattle.chart_records.specs.Inside.{charted_at, field_end, cut_length, givenLength, rest_length, rest_fits}
+use Rattle.chart_records.specs.Inside.{charted_at, field_end, cut_length, given_length, rest_length, rest_fits}
 use Rattle.chart_records.proofs.ChartLaws.{charted_end, charted_on, at_kind, end_within, end_behind, end_falls}
 use Rattle.chart_records.proofs.LengthLaws.{cut_length_end, cut_length_here, record_length, footer_length, number_few}
 
@@ -117,24 +117,24 @@ module _ (s : Text) (at k end : ℕ) (h : at < length s) (ee : end ≡ record_en
   pub body_to : end ≤ length s
   body_to = end_within s at end ee
 
-  pub body-few : (r : ℕ) → r ≤ length (take (end - (at + 1)) (drop (at + 1) s)) + 25 → r ≤ length s + 25
-  body-few r l = omega (arith, body_to, length-take (end - (at + 1)) (drop (at + 1) s))
+  pub body_few : (r : ℕ) → r ≤ length (take (end - (at + 1)) (drop (at + 1) s)) + 25 → r ≤ length s + 25
+  body_few r l = omega (arith, body_to, length-take (end - (at + 1)) (drop (at + 1) s))
 
   module _ (ek : k ≡ record_kind (get_or s at 0)) where
     body_is : take (end - (at + 1)) (drop (at + 1) s) ≡ take (body_width k) (drop (at + 1) s)
     unfolding record_end
     body_is = (wide s (at + 1) (body_width k) end (omega arith) (ee ∙ rw ek)).0
 
-    pub given_is : (r : ℕ) → r ≡ cut_length (widths_of k) (take (end - (at + 1)) (drop (at + 1) s)) → r ≡ givenLength (charted_at s at)
-    unfolding givenLength charted_at
+    pub given_is : (r : ℕ) → r ≡ cut_length (widths_of k) (take (end - (at + 1)) (drop (at + 1) s)) → r ≡ given_length (charted_at s at)
+    unfolding given_length charted_at
     given_is r e = e ∙ rw (← ek, body_is)
 
-pub ruleset for-given-length = (rules, body_from, body_to, body-few, given_is)
+pub ruleset for_given_length = (rules, body_from, body_to, body_few, given_is)
 
 -- record_length
-pub record_is : (s : Text) (at n k t m f : ℕ) → k ≡ record_kind (get_or s at 0) → t ≡ length (type_text k) → m ≡ length (decimal n) → f ≡ givenLength (charted_at s at)
+pub record_is : (s : Text) (at n k t m f : ℕ) → k ≡ record_kind (get_or s at 0) → t ≡ length (type_text k) → m ≡ length (decimal n) → f ≡ given_length (charted_at s at)
     → t + m + f + 3 ≡ length (record_text n (charted_at s at))
-unfolding givenLength
+unfolding given_length
 record_is s at n k t m f ek et em ef =
     let q : (charted_at s at).kind ≡ k = at_kind s at ∙ sym ek in
     sym (record_length n (charted_at s at) ∙ rw (← ef, q, ← et, ← em))
@@ -175,27 +175,27 @@ module _ (n left : ℕ) (r : Charted) (rs : List Charted) where
   unfolding rest_fits
   rest_on h = rw (rest_cons n r rs) (less_left (length (record_text n r)) (rest_length (n + 1) rs) left h)
 
-pub fits-start : (s : Text) (room : ℕ) → fits_in s room ≡ rest_fits 1 room (charted_in (drop 0 s))
+pub fits_start : (s : Text) (room : ℕ) → fits_in s room ≡ rest_fits 1 room (charted_in (drop 0 s))
 unfolding fits_in rest_fits rest_length
-fits-start s room = refl
+fits_start s room = refl
 
 module _ (s : Text) (at n left : ℕ) (x : Bool) (inv : x ≡ rest_fits n left (charted_in (drop at s))) where
   module _ (h : at < length s) (long : ℕ) (el : long ≡ length (record_text n (charted_at s at))) where
     here : x ≡ rest_fits n left (charted_at s at ∷ charted_in (drop (record_end s at) s))
     here = inv ∙ ap (rest_fits n left) (charted_on s at h)
 
-    pub fits-short : left < long → false ≡ x
-    fits-short k = sym (here ∙ rest_short n left (charted_at s at) (charted_in (drop (record_end s at) s)) (omega (arith, el)))
+    pub fits_short : left < long → false ≡ x
+    fits_short k = sym (here ∙ rest_short n left (charted_at s at) (charted_in (drop (record_end s at) s)) (omega (arith, el)))
 
     pub fits_on : (end : ℕ) → long ≤ left → end ≡ record_end s at → x ≡ rest_fits (n + 1) (left - long) (charted_in (drop end s))
     fits_on end k e = here ∙ rest_on n left (charted_at s at) (charted_in (drop (record_end s at) s)) (omega (arith, el)) ∙ rw (← el, ← e)
 
-  pub fits-end : (m : ℕ) → length s ≤ at → m ≡ length (decimal (n + 2)) → leb (m + 7) left ≡ x
+  pub fits_end : (m : ℕ) → length s ≤ at → m ≡ length (decimal (n + 2)) → leb (m + 7) left ≡ x
   unfolding rest_fits
-  fits-end m h e = sym (inv ∙ ap (rest_fits n left) (charted_end s at h) ∙ rw (rest_none n, ← e))
+  fits_end m h e = sym (inv ∙ ap (rest_fits n left) (charted_end s at h) ∙ rw (rest_none n, ← e))
 
 -- a record has a byte at least
 pub number_on : (s : Text) (at n end : ℕ) → n ≤ at + 1 → at < length s → end ≡ record_end s at → n + 1 ≤ end + 1
 number_on s at n end h k e = omega (arith, end_behind s at end e k)
 
-pub ruleset for-fits = (rules, fits-start, fits-short, fits_on, fits-end, number_on, end_within, end_falls)
+pub ruleset for_fits = (rules, fits_start, fits_short, fits_on, fits_end, number_on, end_within, end_falls)

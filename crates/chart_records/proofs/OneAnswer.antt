@@ -26,8 +26,8 @@ width_count k r q = one
 width_at : (k i r q : ℕ) → r ≡ get_or (widths_of k) i 0 → q ≡ get_or (widths_of k) i 0 → r ≡ q
 width_at k i r q = one
 
-is-chart : (s : Text) (r q : Bool) → r ≡ is_chart s → q ≡ is_chart s → r ≡ q
-is-chart s r q = one
+is_chart_lem : (s : Text) (r q : Bool) → r ≡ is_chart s → q ≡ is_chart s → r ≡ q
+is_chart_lem s r q = one
 
 fits : (s : Text) (room : ℕ) (r q : Bool) → r ≡ fits_in s room → q ≡ fits_in s room → r ≡ q
 fits s room r q = one

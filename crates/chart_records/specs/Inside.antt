@@ -37,8 +37,8 @@ unfoldable pub cut_length : List ℕ → Text → ℕ
 cut_length ws t = length (joined piped (cut ws t))
 
 -- and of those of a record
-unfoldable pub givenLength : Charted → ℕ
-givenLength r = cut_length (widths_of r.kind) r.body
+unfoldable pub given_length : Charted → ℕ
+given_length r = cut_length (widths_of r.kind) r.body
 
 -- how long the lines of these records are from number n on, with the footer
 unfoldable pub rest_length : ℕ → List Charted → ℕ

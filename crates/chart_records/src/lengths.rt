@@ -5,7 +5,7 @@ ghost use Rattle.writing.specs.Writing.{decimal};
 ghost use Rattle.chart_definitions.specs.Charts.{widths_of};
 ghost use Rattle.chart_definitions.specs.Submissions.{type_text, record_text};
 ghost use Rattle.chart_records.specs.Reading.{fits_in};
-ghost use Rattle.chart_records.specs.Inside.{charted_at, field_end, cut_length, givenLength};
+ghost use Rattle.chart_records.specs.Inside.{charted_at, field_end, cut_length, given_length};
 
 use crate::kinds::{ahead, kind_at, record_end};
 use crate::widths::{width_at, width_count};
@@ -75,7 +75,7 @@ fn fields_length(body: &[u8], kind: u8) -> usize
 // How many bytes are written of the fields of the record at a position.
 fn given_length(chart: &[u8], at: usize) -> usize
     requires { at < length chart.now }
-    ensures value { result ≡ givenLength (charted_at chart.now at) }
+    ensures value { result ≡ given_length (charted_at chart.now at) }
     ensures upper_bound { result ≤ length chart.now + 25 }
 {
     let from = at + 1;

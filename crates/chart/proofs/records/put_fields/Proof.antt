@@ -1,6 +1,6 @@
 -- `chart::records::put_fields` meets its contract.
 -- Assumes nothing.
-use Rattle.chart.proofs.RecordNeeds.{for-put-fields}
+use Rattle.chart.proofs.RecordNeeds.{for_put_fields}
 use Prim.Native.Nat.{◌-◌, ◌≤◌}
 use mathlib.Core.Path.{◌≡◌}
 use lib.ListN.{length}
@@ -21,17 +21,17 @@ put_fields_spec =
     (tie.spec
     invariant-loop
     decreases-loop
-    (λ c. search for-put-fields)
-    (λ c. search for-put-fields)
-    (λ c. search for-put-fields)
-    (λ c. search for-put-fields)
-    (λ c. search for-put-fields)
-    (λ c. search for-put-fields)
-    (λ c. search for-put-fields)
-    (λ c. search for-put-fields)
-    (λ c. search for-put-fields)
-    (λ c. search for-put-fields)
-    (λ c. search for-put-fields)
-    (λ c. search for-put-fields)
-    (λ c. search for-put-fields)
-    (λ c. search for-put-fields))
+    (λ c. search for_put_fields)
+    (λ c. search for_put_fields)
+    (λ c. search for_put_fields)
+    (λ c. search for_put_fields)
+    (λ c. search for_put_fields)
+    (λ c. search for_put_fields)
+    (λ c. search for_put_fields)
+    (λ c. search for_put_fields)
+    (λ c. search for_put_fields)
+    (λ c. search for_put_fields)
+    (λ c. search for_put_fields)
+    (λ c. search for_put_fields)
+    (λ c. search for_put_fields)
+    (λ c. search for_put_fields))
