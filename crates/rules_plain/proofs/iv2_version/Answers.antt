@@ -1,0 +1,8 @@
+use Rattle.rules_plain.proofs.PlainNeeds.{for_rule}
+use Rattle.rules_plain.proofs.iv2_version.Goals as goal
+
+pub returns-then-r-ne0 : goal.returns-then-r-ne0
+returns-then-r-ne0 c = search for_rule
+
+pub returns : goal.returns
+returns c = search for_rule
