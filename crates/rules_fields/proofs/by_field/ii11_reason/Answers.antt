@@ -1,0 +1,8 @@
+use Rattle.rules_fields.proofs.FieldNeeds.{for_parts}
+use Rattle.rules_fields.proofs.by_field.ii11_reason.Goals as goal
+
+pub rule11_pair-b-requires : goal.rule11_pair-b-requires
+rule11_pair-b-requires c = search for_parts
+
+pub returns : goal.returns
+returns c = search for_parts
