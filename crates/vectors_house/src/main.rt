@@ -65,7 +65,7 @@ fn answer(rt: &impl Print, op: u8, a: &[u8], b: &[u8], c: &[u8]) -> io::Result<(
     vectors_stream::end_line(rt)
 }
 
-fn say_dated(rt: &impl Print, d: &Dated) -> io::Result<()> {
+fn say_dated(rt: &impl Print, d: Dated) -> io::Result<()> {
     match d {
         Dated::Day(x) => vectors_stream::say(rt, x.number as u64),
         Dated::NoDate => vectors_stream::say(rt, 0),
@@ -75,14 +75,14 @@ fn say_dated(rt: &impl Print, d: &Dated) -> io::Result<()> {
 // The text as a date, as an end, and whether its number is a date.
 fn say_dates(rt: &impl Print, t: &[u8]) -> io::Result<()> {
     let d = Date::of(t);
-    say_dated(rt, &d)?;
+    say_dated(rt, d)?;
     let e = Date::end_of(t);
-    say_dated(rt, &e)?;
+    say_dated(rt, e)?;
     vectors_stream::say_yes(rt, Date::is_end(t))?;
     match d {
         Dated::Day(x) => {
             let again = Date::of_number(x.number);
-            say_dated(rt, &again)?;
+            say_dated(rt, again)?;
             vectors_stream::say_yes(rt, Date::is_day(x.number))
         }
         Dated::NoDate => vectors_stream::say_yes(rt, false),
