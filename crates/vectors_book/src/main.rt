@@ -4,14 +4,15 @@
 #![tactic(auto)]
 
 use book::{Found, Position, Read, Sections, Standing, Validity};
+use std::io;
 
-fn main() {
-    let mut space = io::large_buffer();
-    let n = io::read_full(0, &mut space);
-    run(&space[..n]);
+fn main(rt: HostRuntime) -> io::Result<()> {
+    let mut space = [0u8; 65536];
+    let n = vectors_stream::read(&rt, &mut space)?;
+    run(&rt, &space[..n])
 }
 
-fn run(s: &[u8]) {
+fn run(rt: &impl Print, s: &[u8]) -> io::Result<()> {
     let mut at = 0;
     while at < s.len() {
         let p = vectors_stream::part_at(s, at);
@@ -23,35 +24,34 @@ fn run(s: &[u8]) {
                 let b = p.end;
                 let c = q.start;
                 let d = q.end;
-                one(&s[a..b], &s[c..d]);
-                vectors_stream::end_line();
+                one(rt, &s[a..b], &s[c..d])?;
+                vectors_stream::end_line(rt)?;
                 at = d;
             } else {
-                return;
+                return Ok(());
             }
         } else {
-            return;
+            return Ok(());
         }
     }
+    Ok(())
 }
 
 // The entries as read; then, of a valid book, what it says of the codes asked.
-fn one(book: &[u8], asks: &[u8]) {
-    say_entries(book);
+fn one(rt: &impl Print, book: &[u8], asks: &[u8]) -> io::Result<()> {
+    say_entries(rt, book)?;
     let v = book::valid(book);
     match v {
         Validity::Valid(sections) => {
-            io::write_all(1, b"valid ");
-            say_asked(book, sections, asks);
+            rt.write_all(b"valid ")?;
+            say_asked(rt, book, sections, asks)
         }
-        Validity::Malformed => {
-            io::write_all(1, b"malformed ");
-        }
+        Validity::Malformed => rt.write_all(b"malformed "),
     }
 }
 
 // The kind of each entry and where its body starts, up to the end or to what is no whole entry.
-fn say_entries(book: &[u8]) {
+fn say_entries(rt: &impl Print, book: &[u8]) -> io::Result<()> {
     let mut at = 0;
     let mut left = book.len() + 1;
     while 0 < left {
@@ -60,23 +60,22 @@ fn say_entries(book: &[u8]) {
         let r = p.read(book);
         match r {
             Read::Entry { kind, body, next } => {
-                vectors_stream::say(kind as u64);
-                vectors_stream::say(body as u64);
+                vectors_stream::say(rt, kind as u64)?;
+                vectors_stream::say(rt, body as u64)?;
                 at = next.at;
             }
             Read::End => {
-                io::write_all(1, b"end ");
-                return;
+                return rt.write_all(b"end ");
             }
             Read::Malformed => {
-                io::write_all(1, b"stop ");
-                return;
+                return rt.write_all(b"stop ");
             }
         }
     }
+    Ok(())
 }
 
-fn say_asked(book: &[u8], sections: Sections, asks: &[u8]) {
+fn say_asked(rt: &impl Print, book: &[u8], sections: Sections, asks: &[u8]) -> io::Result<()> {
     let mut at = 0;
     while at < asks.len() {
         let p = vectors_stream::part_at(asks, at);
@@ -94,6 +93,7 @@ fn say_asked(book: &[u8], sections: Sections, asks: &[u8]) {
                 let day = vectors_stream::number_at(asks, k + 1);
                 let until = vectors_stream::number_at(asks, k + 5);
                 say_standing(
+                    rt,
                     book,
                     sections,
                     asks[k],
@@ -101,20 +101,22 @@ fn say_asked(book: &[u8], sections: Sections, asks: &[u8]) {
                     &asks[b0..b1],
                     day,
                     until,
-                );
+                )?;
             }
             if b1 <= at {
-                return;
+                return Ok(());
             }
             at = b1;
         } else {
-            return;
+            return Ok(());
         }
     }
+    Ok(())
 }
 
 // Where the code is found, and whether it is unknown, out of force or in force on the day, where its end is not to be before another.
 fn say_standing(
+    rt: &impl Print,
     book: &[u8],
     sections: Sections,
     kind: u8,
@@ -122,26 +124,16 @@ fn say_standing(
     b: &[u8],
     day: u32,
     until: u32,
-) {
+) -> io::Result<()> {
     let f = book::find(book, sections, kind, a, b);
     match f {
-        Found::At(place) => {
-            vectors_stream::say(place.at as u64);
-        }
-        Found::Absent => {
-            io::write_all(1, b"absent ");
-        }
+        Found::At(place) => vectors_stream::say(rt, place.at as u64)?,
+        Found::Absent => rt.write_all(b"absent ")?,
     }
     let s = book::look_up(book, sections, kind, a, b, day, until);
     match s {
-        Standing::Unknown => {
-            io::write_all(1, b"unknown ");
-        }
-        Standing::OutOfForce => {
-            io::write_all(1, b"out-of-force ");
-        }
-        Standing::InForce => {
-            io::write_all(1, b"in-force ");
-        }
+        Standing::Unknown => rt.write_all(b"unknown "),
+        Standing::OutOfForce => rt.write_all(b"out-of-force "),
+        Standing::InForce => rt.write_all(b"in-force "),
     }
 }

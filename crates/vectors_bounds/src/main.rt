@@ -4,44 +4,47 @@
 
 ghost use Rattle.std.specs.Prelude.{◌≤◌};
 
-fn main() {
+use std::io;
+
+fn main(rt: HostRuntime) -> io::Result<()> {
     let mut area = [0u8; 3800038];
-    run(&mut area);
+    run(&rt, &mut area)
 }
 
-fn run(area: &mut [u8]) {
-    say_ledgers(area);
-    let n = io::read_full(0, area);
-    say_parts(&area[..n]);
+fn run(rt: &(impl Input + Print), area: &mut [u8]) -> io::Result<()> {
+    say_ledgers(rt, area)?;
+    let n = vectors_stream::read(rt, area)?;
+    say_parts(rt, &area[..n])
 }
 
 // Free slots: 100,000, and one more.
-fn say_ledgers(zeros: &[u8]) {
+fn say_ledgers(rt: &impl Print, zeros: &[u8]) -> io::Result<()> {
     let from = 0;
     let most = 3800000;
     if most <= zeros.len() {
-        say_ledger(&zeros[from..most]);
-        say_ledger(zeros);
+        say_ledger(rt, &zeros[from..most])?;
+        say_ledger(rt, zeros)?;
     }
+    Ok(())
 }
 
-fn say_ledger(ledger: &[u8]) {
-    io::write_all(1, b"ledger ");
-    vectors_stream::say(ledger.len() as u64);
+fn say_ledger(rt: &impl Print, ledger: &[u8]) -> io::Result<()> {
+    rt.write_all(b"ledger ")?;
+    vectors_stream::say(rt, ledger.len() as u64)?;
     let v = ledger::valid(ledger);
     match v {
         ledger::Validity::Sound { live } => {
-            io::write_all(1, b"sound ");
-            vectors_stream::say(live as u64);
+            rt.write_all(b"sound ")?;
+            vectors_stream::say(rt, live as u64)?;
         }
         ledger::Validity::Malformed => {
-            io::write_all(1, b"malformed ");
+            rt.write_all(b"malformed ")?;
         }
     }
-    vectors_stream::end_line();
+    vectors_stream::end_line(rt)
 }
 
-fn say_parts(s: &[u8]) {
+fn say_parts(rt: &impl Print, s: &[u8]) -> io::Result<()> {
     let b = vectors_stream::part_at(s, 0);
     let to = b.end;
     let c = vectors_stream::part_at(s, to);
@@ -50,27 +53,23 @@ fn say_parts(s: &[u8]) {
     let b1 = b.end;
     let c0 = c.start;
     let c1 = c.end;
-    say_book(&s[b0..b1]);
-    say_book(&s[c0..c1]);
-    say_sorts(s, till);
+    say_book(rt, &s[b0..b1])?;
+    say_book(rt, &s[c0..c1])?;
+    say_sorts(rt, s, till)
 }
 
-fn say_book(book: &[u8]) {
-    io::write_all(1, b"book ");
-    vectors_stream::say(book.len() as u64);
+fn say_book(rt: &impl Print, book: &[u8]) -> io::Result<()> {
+    rt.write_all(b"book ")?;
+    vectors_stream::say(rt, book.len() as u64)?;
     let v = book::valid(book);
     match v {
-        book::Validity::Valid(_) => {
-            io::write_all(1, b"valid ");
-        }
-        book::Validity::Malformed => {
-            io::write_all(1, b"malformed ");
-        }
+        book::Validity::Valid(_) => rt.write_all(b"valid ")?,
+        book::Validity::Malformed => rt.write_all(b"malformed ")?,
     }
-    vectors_stream::end_line();
+    vectors_stream::end_line(rt)
 }
 
-fn say_sorts(s: &[u8], at: usize) {
+fn say_sorts(rt: &impl Print, s: &[u8], at: usize) -> io::Result<()> {
     let f = vectors_stream::part_at(s, at);
     let to = f.end;
     let t = vectors_stream::part_at(s, to);
@@ -78,30 +77,30 @@ fn say_sorts(s: &[u8], at: usize) {
     let f1 = f.end;
     let t0 = t.start;
     let t1 = t.end;
-    sort_most(&s[f0..f1], &s[t0..t1]);
-    sort_more(&s[f0..f1], &s[t0..t1]);
+    sort_most(rt, &s[f0..f1], &s[t0..t1])?;
+    sort_more(rt, &s[f0..f1], &s[t0..t1])
 }
 
-fn sort_most(file: &[u8], three: &[u8]) {
+fn sort_most(rt: &impl Print, file: &[u8], three: &[u8]) -> io::Result<()> {
     let mut places = [0u32; 96154];
-    say_sort(file, three, &mut places);
+    say_sort(rt, file, three, &mut places)
 }
 
-fn sort_more(file: &[u8], three: &[u8]) {
+fn sort_more(rt: &impl Print, file: &[u8], three: &[u8]) -> io::Result<()> {
     let mut places = [0u32; 96155];
-    say_sort(file, three, &mut places);
+    say_sort(rt, file, three, &mut places)
 }
 
 // The three places in turn, again and again; then whether they are sorted and no two events are the same, how often a place differs from the
 // one before, the first and the last.
-fn say_sort(file: &[u8], three: &[u8], places: &mut [u32]) {
-    io::write_all(1, b"sort ");
-    vectors_stream::say(places.len() as u64);
+fn say_sort(rt: &impl Print, file: &[u8], three: &[u8], places: &mut [u32]) -> io::Result<()> {
+    rt.write_all(b"sort ")?;
+    vectors_stream::say(rt, places.len() as u64)?;
     fill(three, places);
-    vectors_stream::say_yes(lines_places::sort(file, places));
-    vectors_stream::say(changes(places) as u64);
-    say_ends(places);
-    vectors_stream::end_line();
+    vectors_stream::say_yes(rt, lines_places::sort(file, places))?;
+    vectors_stream::say(rt, changes(places) as u64)?;
+    say_ends(rt, places)?;
+    vectors_stream::end_line(rt)
 }
 
 fn fill(three: &[u8], places: &mut [u32]) {
@@ -128,10 +127,11 @@ fn changes(places: &[u32]) -> usize {
     n
 }
 
-fn say_ends(places: &[u32]) {
+fn say_ends(rt: &impl Print, places: &[u32]) -> io::Result<()> {
     let n = places.len();
     if 0 < n {
-        vectors_stream::say(house::wide(places[0]) as u64);
-        vectors_stream::say(house::wide(places[n - 1]) as u64);
+        vectors_stream::say(rt, house::wide(places[0]) as u64)?;
+        vectors_stream::say(rt, house::wide(places[n - 1]) as u64)?;
     }
+    Ok(())
 }

@@ -4,35 +4,37 @@
 
 use dates::{Date, Dated};
 use house::{Key, Order};
+use std::io;
 
-fn main() {
-    let mut space = io::large_buffer();
-    let n = io::read_full(0, &mut space);
-    run(&space[..n]);
+fn main(rt: HostRuntime) -> io::Result<()> {
+    let mut space = [0u8; 65536];
+    let n = vectors_stream::read(&rt, &mut space)?;
+    run(&rt, &space[..n])
 }
 
-fn run(s: &[u8]) {
+fn run(rt: &impl Print, s: &[u8]) -> io::Result<()> {
     let mut at = 0;
     while at < s.len() {
         let p = vectors_stream::part_at(s, at);
         let next = p.end;
         if p.whole {
-            let end = one(s, p.start, next);
+            let end = one(rt, s, p.start, next)?;
             if end <= at {
-                return;
+                return Ok(());
             }
             if s.len() < end {
-                return;
+                return Ok(());
             }
             at = end;
         } else {
-            return;
+            return Ok(());
         }
     }
+    Ok(())
 }
 
 // One case: its end, 0 where a part is missing.
-fn one(s: &[u8], op: usize, next: usize) -> usize {
+fn one(rt: &impl Print, s: &[u8], op: usize, next: usize) -> io::Result<usize> {
     let a = vectors_stream::part_at(s, next);
     let to = a.end;
     let b = vectors_stream::part_at(s, to);
@@ -46,72 +48,72 @@ fn one(s: &[u8], op: usize, next: usize) -> usize {
         let c0 = c.start;
         let c1 = c.end;
         if op < s.len() {
-            answer(s[op], &s[a0..a1], &s[b0..b1], &s[c0..c1]);
+            answer(rt, s[op], &s[a0..a1], &s[b0..b1], &s[c0..c1])?;
         }
-        return c1;
+        return Ok(c1);
     }
-    0
+    Ok(0)
 }
 
-fn answer(op: u8, a: &[u8], b: &[u8], c: &[u8]) {
+fn answer(rt: &impl Print, op: u8, a: &[u8], b: &[u8], c: &[u8]) -> io::Result<()> {
     match op {
-        1 => say_dates(a),
-        2 => say_texts(a),
-        3 => say_orders(a, b),
-        _ => say_key(a, b, c),
+        1 => say_dates(rt, a)?,
+        2 => say_texts(rt, a)?,
+        3 => say_orders(rt, a, b)?,
+        _ => say_key(rt, a, b, c)?,
     }
-    vectors_stream::end_line();
+    vectors_stream::end_line(rt)
 }
 
-fn say_dated(d: Dated) {
+fn say_dated(rt: &impl Print, d: Dated) -> io::Result<()> {
     match d {
-        Dated::Day(x) => vectors_stream::say(x.number as u64),
-        Dated::NoDate => vectors_stream::say(0),
+        Dated::Day(x) => vectors_stream::say(rt, x.number as u64),
+        Dated::NoDate => vectors_stream::say(rt, 0),
     }
 }
 
 // The text as a date, as an end, and whether its number is a date.
-fn say_dates(t: &[u8]) {
+fn say_dates(rt: &impl Print, t: &[u8]) -> io::Result<()> {
     let d = Date::of(t);
-    say_dated(d);
+    say_dated(rt, d)?;
     let e = Date::end_of(t);
-    say_dated(e);
-    vectors_stream::say_yes(Date::is_end(t));
+    say_dated(rt, e)?;
+    vectors_stream::say_yes(rt, Date::is_end(t))?;
     match d {
         Dated::Day(x) => {
             let again = Date::of_number(x.number);
-            say_dated(again);
-            vectors_stream::say_yes(Date::is_day(x.number));
+            say_dated(rt, again)?;
+            vectors_stream::say_yes(rt, Date::is_day(x.number))
         }
-        Dated::NoDate => vectors_stream::say_yes(false),
+        Dated::NoDate => vectors_stream::say_yes(rt, false),
     }
 }
 
-fn say_texts(t: &[u8]) {
-    vectors_stream::say_yes(house::is_padded(t));
-    vectors_stream::say_yes(house::all_digits(t));
+fn say_texts(rt: &impl Print, t: &[u8]) -> io::Result<()> {
+    vectors_stream::say_yes(rt, house::is_padded(t))?;
+    vectors_stream::say_yes(rt, house::all_digits(t))
 }
 
-fn say_order(o: Order) {
+fn say_order(rt: &impl Print, o: Order) -> io::Result<()> {
     match o {
-        Order::Less => vectors_stream::say(1),
-        Order::Same => vectors_stream::say(2),
-        Order::More => vectors_stream::say(3),
+        Order::Less => vectors_stream::say(rt, 1),
+        Order::Same => vectors_stream::say(rt, 2),
+        Order::More => vectors_stream::say(rt, 3),
     }
 }
 
 // The order, whether same, whether before, and the order to the text padded.
-fn say_orders(a: &[u8], b: &[u8]) {
+fn say_orders(rt: &impl Print, a: &[u8], b: &[u8]) -> io::Result<()> {
     let o = house::compare(a, b);
-    say_order(o);
-    vectors_stream::say_yes(house::same(a, b));
-    vectors_stream::say_yes(house::before(a, b));
+    say_order(rt, o)?;
+    vectors_stream::say_yes(rt, house::same(a, b))?;
+    vectors_stream::say_yes(rt, house::before(a, b))?;
     let p = house::compare_padded(a, b);
-    say_order(p);
+    say_order(rt, p)
 }
 
-fn say_key(a: &[u8], b: &[u8], c: &[u8]) {
+fn say_key(rt: &impl Print, a: &[u8], b: &[u8], c: &[u8]) -> io::Result<()> {
     let k = Key::of(a, b, c);
     let bytes = k.bytes;
-    vectors_stream::say_text(&bytes);
+    vectors_stream::say_text(rt, &bytes)
 }

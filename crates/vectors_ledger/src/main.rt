@@ -3,14 +3,15 @@
 #![tactic(auto)]
 
 use ledger::Validity;
+use std::io;
 
-fn main() {
-    let mut space = io::large_buffer();
-    let n = io::read_full(0, &mut space);
-    run(&space[..n]);
+fn main(rt: HostRuntime) -> io::Result<()> {
+    let mut space = [0u8; 65536];
+    let n = vectors_stream::read(&rt, &mut space)?;
+    run(&rt, &space[..n])
 }
 
-fn run(s: &[u8]) {
+fn run(rt: &impl Print, s: &[u8]) -> io::Result<()> {
     let mut at = 0;
     while at < s.len() {
         let p = vectors_stream::part_at(s, at);
@@ -22,37 +23,38 @@ fn run(s: &[u8]) {
                 let b = p.end;
                 let c = q.start;
                 let d = q.end;
-                let live = say_valid(&s[a..b]);
-                one(&s[a..b], live, &s[c..d]);
-                vectors_stream::end_line();
+                let live = say_valid(rt, &s[a..b])?;
+                one(rt, &s[a..b], live, &s[c..d])?;
+                vectors_stream::end_line(rt)?;
                 at = d;
             } else {
-                return;
+                return Ok(());
             }
         } else {
-            return;
+            return Ok(());
         }
     }
+    Ok(())
 }
 
 // How many events are live, if the ledger is well formed.
-fn say_valid(ledger: &[u8]) -> usize {
+fn say_valid(rt: &impl Print, ledger: &[u8]) -> io::Result<usize> {
     let v = ledger::valid(ledger);
     match v {
         Validity::Sound { live } => {
-            io::write_all(1, b"sound ");
-            vectors_stream::say(live as u64);
-            live
+            rt.write_all(b"sound ")?;
+            vectors_stream::say(rt, live as u64)?;
+            Ok(live)
         }
         Validity::Malformed => {
-            io::write_all(1, b"malformed ");
-            0
+            rt.write_all(b"malformed ")?;
+            Ok(0)
         }
     }
 }
 
 // Of a ledger of three slots, what the file's places do to it.
-fn one(lent: &[u8], live: usize, asked: &[u8]) {
+fn one(rt: &impl Print, lent: &[u8], live: usize, asked: &[u8]) -> io::Result<()> {
     let f = vectors_stream::part_at(asked, 0);
     let to = f.end;
     let a = vectors_stream::part_at(asked, to);
@@ -66,15 +68,29 @@ fn one(lent: &[u8], live: usize, asked: &[u8]) {
         let d0 = d.start;
         let d1 = d.end;
         if lent.len() == 114 {
-            say_live(lent, live, &asked[f0..f1], &asked[a0..a1]);
-            say_sorted(&asked[f0..f1], &asked[a0..a1]);
-            say_updated(lent, live, &asked[f0..f1], &asked[a0..a1], &asked[d0..d1]);
+            say_live(rt, lent, live, &asked[f0..f1], &asked[a0..a1])?;
+            say_sorted(rt, &asked[f0..f1], &asked[a0..a1])?;
+            say_updated(
+                rt,
+                lent,
+                live,
+                &asked[f0..f1],
+                &asked[a0..a1],
+                &asked[d0..d1],
+            )?;
         }
     }
+    Ok(())
 }
 
 // For each of up to four places, whether its event is live.
-fn say_live(ledger: &[u8], live: usize, file: &[u8], places: &[u8]) {
+fn say_live(
+    rt: &impl Print,
+    ledger: &[u8],
+    live: usize,
+    file: &[u8],
+    places: &[u8],
+) -> io::Result<()> {
     let mut i = 0;
     while i < 4 {
         if i < places.len() / 4 {
@@ -82,10 +98,11 @@ fn say_live(ledger: &[u8], live: usize, file: &[u8], places: &[u8]) {
                 file,
                 house::wide(vectors_stream::number_at(places, 4 * i)),
             );
-            vectors_stream::say_yes(ledger::is_live(ledger, live, key));
+            vectors_stream::say_yes(rt, ledger::is_live(ledger, live, key))?;
         }
         i += 1;
     }
+    Ok(())
 }
 
 // Four places, 0 where there are fewer.
@@ -99,17 +116,17 @@ fn four(places: &[u8]) -> [u32; 4] {
 }
 
 // Whether no two of the events of four places are the same, and the places in the order of their events.
-fn say_sorted(file: &[u8], places: &[u8]) {
+fn say_sorted(rt: &impl Print, file: &[u8], places: &[u8]) -> io::Result<()> {
     let mut sorted = four(places);
-    vectors_stream::say_yes(lines_places::sort(file, &mut sorted));
-    say_place(sorted[0]);
-    say_place(sorted[1]);
-    say_place(sorted[2]);
-    say_place(sorted[3]);
+    vectors_stream::say_yes(rt, lines_places::sort(file, &mut sorted))?;
+    say_place(rt, sorted[0])?;
+    say_place(rt, sorted[1])?;
+    say_place(rt, sorted[2])?;
+    say_place(rt, sorted[3])
 }
 
-fn say_place(p: u32) {
-    vectors_stream::say(p as u64);
+fn say_place(rt: &impl Print, p: u32) -> io::Result<()> {
+    vectors_stream::say(rt, p as u64)
 }
 
 // The byte at a place, 0 past the end.
@@ -128,7 +145,14 @@ fn three_slots(lent: &[u8]) -> [u8; 114] {
 }
 
 // The ledger after an update by the first places.
-fn say_updated(lent: &[u8], live: usize, file: &[u8], adds: &[u8], deletes: &[u8]) {
+fn say_updated(
+    rt: &impl Print,
+    lent: &[u8],
+    live: usize,
+    file: &[u8],
+    adds: &[u8],
+    deletes: &[u8],
+) -> io::Result<()> {
     let mut ledger = three_slots(lent);
     let plus = four(adds);
     let minus = four(deletes);
@@ -141,7 +165,7 @@ fn say_updated(lent: &[u8], live: usize, file: &[u8], adds: &[u8], deletes: &[u8
         &minus,
         deletes.len() / 4,
     );
-    vectors_stream::say_text(&ledger);
+    vectors_stream::say_text(rt, &ledger)
 }
 
 fn update(

@@ -4,18 +4,19 @@
 
 use book::Sections;
 use rules::{By, Judged};
+use std::io;
 
-fn main() {
+fn main(rt: HostRuntime) -> io::Result<()> {
     let mut space = [0u8; 200000];
-    serve(&mut space);
+    serve(&rt, &mut space)
 }
 
-fn serve(space: &mut [u8]) {
-    let n = io::read_full(0, space);
-    run(&space[..n]);
+fn serve(rt: &(impl Input + Print), space: &mut [u8]) -> io::Result<()> {
+    let n = vectors_stream::read(rt, space)?;
+    run(rt, &space[..n])
 }
 
-fn run(s: &[u8]) {
+fn run(rt: &impl Print, s: &[u8]) -> io::Result<()> {
     let mut at = 0;
     while at < s.len() {
         let p = vectors_stream::part_at(s, at);
@@ -27,18 +28,19 @@ fn run(s: &[u8]) {
                 let b = p.end;
                 let c = q.start;
                 let d = q.end;
-                one(&s[a..b], &s[c..d]);
+                one(rt, &s[a..b], &s[c..d])?;
                 at = d;
             } else {
-                return;
+                return Ok(());
             }
         } else {
-            return;
+            return Ok(());
         }
     }
+    Ok(())
 }
 
-fn one(file: &[u8], with: &[u8]) {
+fn one(rt: &impl Print, file: &[u8], with: &[u8]) -> io::Result<()> {
     let n = vectors_stream::part_at(with, 0);
     let to = n.end;
     let b = vectors_stream::part_at(with, to);
@@ -51,23 +53,33 @@ fn one(file: &[u8], with: &[u8]) {
         let b1 = b.end;
         let l0 = l.start;
         let l1 = l.end;
-        by_book(file, &with[n0..n1], &with[b0..b1], &with[l0..l1]);
+        by_book(rt, file, &with[n0..n1], &with[b0..b1], &with[l0..l1])?;
     }
+    Ok(())
 }
 
-fn by_book(file: &[u8], numbers: &[u8], book: &[u8], ledger: &[u8]) {
+fn by_book(
+    rt: &impl Print,
+    file: &[u8],
+    numbers: &[u8],
+    book: &[u8],
+    ledger: &[u8],
+) -> io::Result<()> {
     let v = book::valid(book);
     match v {
-        book::Validity::Valid(q) => {
-            by_ledger(file, numbers, book, q, ledger);
-        }
-        book::Validity::Malformed => {
-            io::write_all(1, b"book\n");
-        }
+        book::Validity::Valid(q) => by_ledger(rt, file, numbers, book, q, ledger),
+        book::Validity::Malformed => rt.write_all(b"book\n"),
     }
 }
 
-fn by_ledger(file: &[u8], numbers: &[u8], book: &[u8], q: Sections, ledger: &[u8]) {
+fn by_ledger(
+    rt: &impl Print,
+    file: &[u8],
+    numbers: &[u8],
+    book: &[u8],
+    q: Sections,
+    ledger: &[u8],
+) -> io::Result<()> {
     let v = ledger::valid(ledger);
     match v {
         ledger::Validity::Sound { live } => {
@@ -76,22 +88,28 @@ fn by_ledger(file: &[u8], numbers: &[u8], book: &[u8], q: Sections, ledger: &[u8
                 sections: q,
                 live,
             };
-            lend(file, numbers, book, by, ledger);
+            lend(rt, file, numbers, book, by, ledger)
         }
-        ledger::Validity::Malformed => {
-            io::write_all(1, b"ledger\n");
-        }
+        ledger::Validity::Malformed => rt.write_all(b"ledger\n"),
     }
 }
 
-fn lend(file: &[u8], numbers: &[u8], book: &[u8], by: By, ledger: &[u8]) {
+fn lend(
+    rt: &impl Print,
+    file: &[u8],
+    numbers: &[u8],
+    book: &[u8],
+    by: By,
+    ledger: &[u8],
+) -> io::Result<()> {
     let mut buffer = [0u32; 130];
     let mut area = [238u8; 600];
-    judged(file, numbers, book, by, ledger, &mut buffer, &mut area);
+    judged(rt, file, numbers, book, by, ledger, &mut buffer, &mut area)
 }
 
 // Judges with as much of the buffer and of the area as the case says.
 fn judged(
+    rt: &impl Print,
     file: &[u8],
     numbers: &[u8],
     book: &[u8],
@@ -99,14 +117,14 @@ fn judged(
     ledger: &[u8],
     buffer: &mut [u32],
     area: &mut [u8],
-) {
+) -> io::Result<()> {
     let blocks = house::wide(vectors_stream::number_at(numbers, 4));
     let bytes = house::wide(vectors_stream::number_at(numbers, 8));
     if buffer.len() < blocks {
-        return;
+        return Ok(());
     }
     if area.len() < bytes {
-        return;
+        return Ok(());
     }
     let from = 0;
     let j = rules::judge(
@@ -117,26 +135,26 @@ fn judged(
         &mut buffer[from..blocks],
         &mut area[from..bytes],
     );
-    say_judged(j, &area[from..bytes]);
+    say_judged(rt, j, &area[from..bytes])
 }
 
 // How many blocks, findings and IN records there are, and the findings area.
-fn say_judged(j: Judged, area: &[u8]) {
+fn say_judged(rt: &impl Print, j: Judged, area: &[u8]) -> io::Result<()> {
     match j {
         Judged::Done {
             blocks,
             findings,
             not_immunized,
         } => {
-            io::write_all(1, b"done ");
-            vectors_stream::say(blocks as u64);
-            vectors_stream::say(findings as u64);
-            vectors_stream::say(not_immunized as u64);
-            say_area(area, findings);
+            rt.write_all(b"done ")?;
+            vectors_stream::say(rt, blocks as u64)?;
+            vectors_stream::say(rt, findings as u64)?;
+            vectors_stream::say(rt, not_immunized as u64)?;
+            say_area(rt, area, findings)
         }
         Judged::TooMany => {
-            io::write_all(1, b"too-many ");
-            say_area(area, written(area));
+            rt.write_all(b"too-many ")?;
+            say_area(rt, area, written(area))
         }
     }
 }
@@ -159,25 +177,25 @@ fn written(area: &[u8]) -> usize {
 }
 
 // The findings that are kept, each on its line, and whether the other bytes are as lent.
-fn say_area(area: &[u8], findings: usize) {
+fn say_area(rt: &impl Print, area: &[u8], findings: usize) -> io::Result<()> {
     let mut at = 0;
     let mut left = findings;
-    vectors_stream::end_line();
+    vectors_stream::end_line(rt)?;
     while 0 < left {
         if area.len() - at < 6 {
             break;
         }
-        vectors_stream::say(vectors_stream::number_at(area, at + 1) as u64);
-        vectors_stream::say(vectors_stream::wide(area[at + 5]) as u64);
-        vectors_stream::say(vectors_stream::wide(area[at]) as u64);
-        vectors_stream::end_line();
+        vectors_stream::say(rt, vectors_stream::number_at(area, at + 1) as u64)?;
+        vectors_stream::say(rt, vectors_stream::wide(area[at + 5]) as u64)?;
+        vectors_stream::say(rt, vectors_stream::wide(area[at]) as u64)?;
+        vectors_stream::end_line(rt)?;
         at += 6;
         left -= 1;
     }
     if as_lent(area, at) {
-        io::write_all(1, b"kept\n");
+        rt.write_all(b"kept\n")
     } else {
-        io::write_all(1, b"altered\n");
+        rt.write_all(b"altered\n")
     }
 }
 

@@ -2,9 +2,12 @@
 #![tactic(auto)]
 
 ghost use Rattle.std.specs.Prelude.{◌≡◌};
+ghost use Rattle.std.specs.Io.{ReadsAtMost};
 ghost use Rattle.vectors_stream.specs.Parts.{PartIs};
 
 pub use house::number_at;
+use std::io;
+use std::io::Read;
 
 // Where a part's bytes start and end; 0 and 0 where no whole part stands.
 #[derive(Clone, Copy)]
@@ -56,27 +59,42 @@ pub fn wide(b: u8) -> usize
     b as usize
 }
 
-// Prints a number and a blank.
-pub fn say(n: u64) {
-    io::print_decimal(1, n);
-    io::write_all(1, b" ");
+// Reads standard input until the space is full or the input ends, and answers how many bytes it put at the start of the space.
+pub fn read(rt: &impl Input, space: &mut [u8]) -> io::Result<usize>
+    ensures { ReadsAtMost result space.new }
+{
+    let mut reader = rt.reader();
+    let mut done = 0;
+    while done < space.len() {
+        let n = reader.read(&mut space[done..])?;
+        if n == 0 {
+            break;
+        }
+        done += n;
+    }
+    Ok(done)
 }
 
-pub fn say_yes(yes: bool) {
+// Prints a number and a blank.
+pub fn say(rt: &impl Print, n: u64) -> io::Result<()> {
+    print!(rt; "{n} ")
+}
+
+pub fn say_yes(rt: &impl Print, yes: bool) -> io::Result<()> {
     if yes {
-        io::write_all(1, b"yes ");
+        print!(rt; "yes ")
     } else {
-        io::write_all(1, b"no ");
+        print!(rt; "no ")
     }
 }
 
 // Prints a text between bars, and a blank.
-pub fn say_text(t: &[u8]) {
-    io::write_all(1, b"[");
-    io::write_all(1, t);
-    io::write_all(1, b"] ");
+pub fn say_text(rt: &impl Print, t: &[u8]) -> io::Result<()> {
+    rt.write_all(b"[")?;
+    rt.write_all(t)?;
+    rt.write_all(b"] ")
 }
 
-pub fn end_line() {
-    io::write_all(1, b"\n");
+pub fn end_line(rt: &impl Print) -> io::Result<()> {
+    rt.write_all(b"\n")
 }
