@@ -1,0 +1,8 @@
+use Rattle.chart.proofs.RunNeeds.{for_is_of}
+use Rattle.chart.proofs.runs.is_of.Goals as goal
+
+pub returns-then-kind-a : goal.returns-then-kind-a
+returns-then-kind-a c = search for_is_of
+
+pub returns : goal.returns
+returns c = search for_is_of
