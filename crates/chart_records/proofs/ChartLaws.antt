@@ -7,15 +7,14 @@ use Prim.Native.Nat.{ℕ, zero, suc, ◌+◌, ◌-◌, ◌≤◌, ◌<◌}
 use native.Mathlib.Omega.{arith}
 use borrow.Author.Tests.{ltb-true, ltb-false}
 use lib.Dec.{ltb}
-use lib.ListN.{length, get_or, take, drop}
-use lib.Seq.{drop-drop}
+use lib.ListN.{length, get_or, take, drop, length-drop}
+use lib.Seq.{drop-drop, take_all}
 use Rattle.house.specs.Text.{Text}
 use Rattle.house.specs.Numbers.{lesser_of}
 use Rattle.house.proofs.Suffix.{drop_here, drop_past}
 use Rattle.blanks.specs.Blanks.{trimmed}
 use Rattle.chart_definitions.specs.Charts.{Charted, record_kind, body_width, charted_after, charted_in, cut}
-use Rattle.chart_records.specs.Reading.{record_end}
-use Rattle.chart_records.specs.Inside.{charted_at}
+use Rattle.chart_records.specs.Reading.{charted_at, record_end}
 
 -- RECORDS
 
@@ -78,6 +77,22 @@ module _ (s : Text) (at e : ℕ) (p : e ≡ record_end s at) where
   -- so less of the chart is left
   pub end_falls : at < length s → length s - e < length s - at
   end_falls h = omega (arith, ends.0, ends.1 h)
+
+-- a part that is so wide, or goes to the end
+module _ (t : Text) (at w end : ℕ) (h : at ≤ length t) (e : end ≡ lesser_of (at + w) (length t)) where
+  by_end : (v : Bool) → ltb (length t) (at + w) ≡ v → end ≡ cond v (length t) (at + w)
+      → (take (end - at) (drop at t) ≡ take w (drop at t)) × (drop end t ≡ drop (at + w) t)
+  by_end true u q =
+      let k : length t < at + w = ltb-true (length t) (at + w) u in (
+        take_all (end - at) (drop at t) (omega (arith, q, length-drop at t)) ∙ sym (take_all w (drop at t) (omega (arith, length-drop at t))),
+        drop_past t end (omega (arith, q)) ∙ sym (drop_past t (at + w) (omega arith)),
+      )
+  by_end false u q =
+      let k : end - at ≡ w = omega (arith, q) in
+      (ap (λ (n : ℕ). take n (drop at t)) k, ap (λ (n : ℕ). drop n t) q)
+
+  pub wide : (take (end - at) (drop at t) ≡ take w (drop at t)) × (drop end t ≡ drop (at + w) t)
+  wide = by_end (ltb (length t) (at + w)) refl e
 
 -- FIELDS, by the number of the first of them
 

@@ -19,8 +19,8 @@ use Rattle.lines.specs.Lines.{pipe}
 use Rattle.lines.specs.Records.{IH, IF}
 use Rattle.lines.specs.Shape.{follows}
 use Rattle.chart_definitions.specs.Charts.{Charted, record_kind, body_width, charted_in, is_field_byte, well_formed, ordered, is_chart}
-use Rattle.chart_records.specs.Reading.{record_end}
-use Rattle.chart_records.specs.Inside.{charted_at, lifted_of, fields_in, right_after, right_from}
+use Rattle.chart_records.specs.Reading.{charted_at, record_end, right_after}
+use Rattle.chart_records.specs.Inside.{lifted_of, fields_in, right_from}
 use Rattle.chart_records.proofs.ChartLaws.{charted_end, charted_on, at_kind, end_within, end_falls}
 
 -- lifted
@@ -36,7 +36,7 @@ module _ (b : ℕ) where
 pub ruleset for_lifted = (rules, lifted_pipe, lifted_other)
 
 -- is_field_bytes: a byte by two bounds
-by_bounds : (b : ℕ) → is_field_byte b ≡ cond (ltb b 32) false (cond (ltb 126 (lifted_of b)) false true)
+pub by_bounds : (b : ℕ) → is_field_byte b ≡ cond (ltb b 32) false (cond (ltb 126 (lifted_of b)) false true)
 unfolding is_field_byte lifted_of
 by_bounds b = go (eqb b pipe) refl (ltb b 32) refl (ltb 126 b) refl
   where
@@ -88,7 +88,7 @@ and-false : (u : Bool) → false ≡ (u && false)
 and-false true = refl
 and-false false = refl
 
-follows_none : (p k : ℕ) → k ≡ 0 → follows p k ≡ false
+pub follows_none : (p k : ℕ) → k ≡ 0 → follows p k ≡ false
 unfolding follows
 follows_none p k e = rw e
 
@@ -123,7 +123,7 @@ module _ (p at k : ℕ) (s : Text) (ek : k ≡ record_kind (get_or s at 0)) (f :
 pub ruleset for_is_right_at = (rules, right_order, right_short, right_bytes)
 
 -- is_chart
-right_cons : (p : ℕ) (r : Charted) (rs : List Charted) → right_from p (r ∷ rs) ≡ (right_after p r && right_from r.kind rs)
+pub right_cons : (p : ℕ) (r : Charted) (rs : List Charted) → right_from p (r ∷ rs) ≡ (right_after p r && right_from r.kind rs)
 unfolding right_from right_after ordered
 right_cons p r rs = go (well_formed r) (all well_formed rs) (follows p r.kind) (ordered r.kind rs)
   where
@@ -134,7 +134,7 @@ right_cons p r rs = go (well_formed r) (all well_formed rs) (follows p r.kind) (
     go true false true x = refl
     go true false false x = refl
 
-right_none : (p : ℕ) → right_from p [] ≡ follows p IF
+pub right_none : (p : ℕ) → right_from p [] ≡ follows p IF
 unfolding right_from ordered
 right_none p = refl
 

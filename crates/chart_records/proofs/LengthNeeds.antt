@@ -3,25 +3,25 @@
 use mathlib.Core.Path.{◌≡◌, refl, sym, ap, ◌∙◌}
 use mathlib.Core.Bool.{Bool, true, false, cond}
 use mathlib.Core.List.{List, [], ◌∷◌, ◌++◌}
-use Prim.Native.Nat.{ℕ, suc, ◌+◌, ◌-◌, ◌≤◌, ◌<◌}
+use Prim.Native.Nat.{ℕ, zero, suc, ◌+◌, ◌-◌, ◌≤◌, ◌<◌}
 use native.Mathlib.Omega.{arith}
 use borrow.Author.Rules.{rules}
-use borrow.Author.Tests.{ne_eqb, ltb-true, lt-leb, le-leb, leb-true, leb-false}
-use lib.Dec.{ltb, leb}
+use borrow.Author.Tests.{ne_eqb, lt-leb, le-leb, leb-true, leb-false}
+use lib.Dec.{leb}
 use lib.ListN.{length, get_or, take, drop, length-append, length-take, length-drop}
-use lib.Seq.{take_all}
-use Rattle.house.specs.Text.{Text}
+use Rattle.house.specs.Text.{Text, joined}
 use Rattle.house.specs.Numbers.{lesser_of}
 use Rattle.house.proofs.Suffix.{drop_past}
-use Rattle.blanks.specs.Blanks.{trimmed}
-use Rattle.blanks.proofs.TrimLaws.{trimmed_short}
+use Rattle.blanks.specs.Blanks.{without_last_blanks, trimmed}
+use Rattle.blanks.proofs.TrimLaws.{last_short, trimmed_short}
 use Rattle.writing.specs.Writing.{decimal}
 use Rattle.lines.specs.Records.{IP, II, IE, IN, IA}
-use Rattle.chart_definitions.specs.Charts.{Charted, record_kind, widths_of, body_width, charted_in}
-use Rattle.chart_definitions.specs.Submissions.{type_text, line_text, record_text, records_text, footer_fields}
-use Rattle.chart_records.specs.Reading.{record_end, fits_in}
-use Rattle.chart_records.specs.Inside.{charted_at, field_end, cut_length, given_length, rest_length, rest_fits}
-use Rattle.chart_records.proofs.ChartLaws.{charted_end, charted_on, at_kind, end_within, end_behind, end_falls}
+use Rattle.chart_definitions.specs.Charts.{Charted, record_kind, widths_of, body_width, charted_in, cut}
+use Rattle.chart_definitions.specs.Submissions.{piped, type_text, line_text, record_text, records_text, footer_fields}
+use Rattle.chart_records.specs.Reading.{charted_at, record_end, fits_in}
+use Rattle.chart_records.specs.Inside.{field_end, cut_length, given_length, rest_length, rest_fits}
+use Rattle.chart_records.proofs.GivenLaws.{cut_given}
+use Rattle.chart_records.proofs.ChartLaws.{charted_end, charted_on, at_kind, end_within, end_behind, end_falls, wide}
 use Rattle.chart_records.proofs.LengthLaws.{cut_length_end, cut_length_here, record_length, footer_length, number_few}
 
 -- type_length
@@ -52,22 +52,6 @@ module _ (k : ℕ) where
 
 pub ruleset for_type_length = (rules, type_patient, type_immunization, type_count, type_not_immunized, type_antigen, type_none)
 
--- a part that is so wide, or goes to the end
-module _ (t : Text) (at w end : ℕ) (h : at ≤ length t) (e : end ≡ lesser_of (at + w) (length t)) where
-  by_end : (v : Bool) → ltb (length t) (at + w) ≡ v → end ≡ cond v (length t) (at + w)
-      → (take (end - at) (drop at t) ≡ take w (drop at t)) × (drop end t ≡ drop (at + w) t)
-  by_end true u q =
-      let k : length t < at + w = ltb-true (length t) (at + w) u in (
-        take_all (end - at) (drop at t) (omega (arith, q, length-drop at t)) ∙ sym (take_all w (drop at t) (omega (arith, length-drop at t))),
-        drop_past t end (omega (arith, q)) ∙ sym (drop_past t (at + w) (omega arith)),
-      )
-  by_end false u q =
-      let k : end - at ≡ w = omega (arith, q) in
-      (ap (λ (n : ℕ). take n (drop at t)) k, ap (λ (n : ℕ). drop n t) q)
-
-  wide : (take (end - at) (drop at t) ≡ take w (drop at t)) × (drop end t ≡ drop (at + w) t)
-  wide = by_end (ltb (length t) (at + w)) refl e
-
 -- field_end
 pub field_end_lem : (k i w r at : ℕ) (t : Text) → w ≡ get_or (widths_of k) i 0 → r ≡ lesser_of (at + w) (length t) → r ≡ field_end (widths_of k) i t at
 unfolding field_end
@@ -86,6 +70,34 @@ module _ (t f : Text) (at end : ℕ) (e : f ≡ trimmed (take (end - at) (drop a
 pub ruleset for_field_length = (rules, field_is, field_short)
 
 -- fields_length: x in all, of which long bytes are of the fields before number i
+empty_take : (n : ℕ) → take {A = ℕ} n [] ≡ []
+empty_take zero = refl
+empty_take (suc n) = refl
+
+empty_drop : (n : ℕ) → drop {A = ℕ} n [] ≡ []
+empty_drop zero = refl
+empty_drop (suc n) = refl
+
+-- of nothing the pipes alone
+pipes_alone : (ws : List ℕ) → cut_length ws [] ≡ length ws
+unfolding cut_length trimmed without_last_blanks
+pipes_alone [] = refl
+pipes_alone (w ∷ ws) = rw (empty_take w, empty_drop w) (ap suc (pipes_alone ws))
+
+pub fields_start : (ws : List ℕ) (t given : Text) → given ≡ without_last_blanks t → cut_length ws t ≡ 0 + cut_length (drop 0 ws) (drop 0 given)
+unfolding cut_length
+fields_start ws t given e =
+    let q : length (joined piped (cut ws given)) ≡ length (joined piped (cut ws t)) =
+    ap (λ (u : Text). length (joined piped (cut ws u))) e ∙ ap (λ (ts : List Text). length (joined piped ts)) (cut_given ws t) in
+    omega (arith, q)
+
+module _ (t given : Text) (e : given ≡ without_last_blanks t) (at i long c : ℕ) (h : at ≤ length given) (l : long ≤ at + i) (k : i ≤ c) (f : c ≤ 25) where
+  pub few_rest : long + (c - i) ≤ length t + 25
+  few_rest = omega (arith, ap length e, last_short t, h, l, k, f)
+
+  pub few_end : long ≤ length t + 25
+  few_end = omega (arith, ap length e, last_short t, h, l, k, f)
+
 module _ (ws : List ℕ) (t : Text) (i at long x : ℕ) (inv : x ≡ long + cut_length (drop i ws) (drop at t)) where
   pub fields_on : (end c f : ℕ) → at ≤ length t → c ≡ length ws → i < c → end ≡ field_end ws i t at
       → f ≡ length (trimmed (take (end - at) (drop at t))) → x ≡ long + (f + 1) + cut_length (drop (i + 1) ws) (drop end t)
@@ -98,10 +110,15 @@ module _ (ws : List ℕ) (t : Text) (i at long x : ℕ) (inv : x ≡ long + cut_
       ∙ ap (λ (n : ℕ). long + n) (cut_length_here ws i t at l)
       ∙ rw (p.1, q) (omega arith)
 
+  pub fields_rest : (c : ℕ) → c ≡ length ws → i < c → length t ≤ at → long + (c - i) ≡ x
+  fields_rest c ec k h =
+      let e : cut_length (drop i ws) (drop at t) ≡ length (drop i ws) = rw (drop_past t at h) (pipes_alone (drop i ws)) in
+      omega (arith, inv, ec, e, length-drop i ws)
+
   pub fields_end : (c : ℕ) → c ≡ length ws → c ≤ i → long ≡ x
   fields_end c ec k = let l : length ws ≤ i = omega (arith, ec) in omega (arith, inv, cut_length_end ws i (drop at t) l)
 
-pub ruleset for_fields_length = (rules, fields_on, fields_end)
+pub ruleset for_fields_length = (rules, fields_start, few_rest, few_end, fields_on, fields_rest, fields_end)
 
 -- digits
 pub digits_few : (n r : ℕ) → n < 18446744073709551616 → r ≡ length (decimal n) → r ≤ 20
@@ -145,7 +162,7 @@ pub ruleset for_record_length = (rules, record_is)
 joined_length : (a b c : Text) → length ((a ++ b) ++ c) ≡ length a + length (b ++ c)
 joined_length a b c = simp length-append (omega arith)
 
-rest_cons : (n : ℕ) (r : Charted) (rs : List Charted) → rest_length n (r ∷ rs) ≡ length (record_text n r) + rest_length (n + 1) rs
+pub rest_cons : (n : ℕ) (r : Charted) (rs : List Charted) → rest_length n (r ∷ rs) ≡ length (record_text n r) + rest_length (n + 1) rs
 unfolding rest_length records_text
 rest_cons n r rs =
     let a : suc (length rs) + (n + 2) ≡ length rs + (n + 1 + 2) = omega arith in
@@ -154,7 +171,7 @@ rest_cons n r rs =
     ∙ ap (λ (m : ℕ). length ((record_text n r ++ records_text m rs) ++ line_text (footer_fields (length rs + (n + 1 + 2))))) b
     ∙ joined_length (record_text n r) (records_text (n + 1) rs) (line_text (footer_fields (length rs + (n + 1 + 2))))
 
-rest_none : (n : ℕ) → rest_length n [] ≡ length (decimal (n + 2)) + 7
+pub rest_none : (n : ℕ) → rest_length n [] ≡ length (decimal (n + 2)) + 7
 unfolding rest_length records_text
 rest_none n = let a : 0 + (n + 2) ≡ n + 2 = omega arith in ap (λ (m : ℕ). length (line_text (footer_fields m))) a ∙ footer_length (n + 2)
 
@@ -167,11 +184,11 @@ less_left a b left h = go (leb b (left - a)) refl
     go false e = lt-leb (a + b) left (omega (arith, leb-false b (left - a) e))
 
 module _ (n left : ℕ) (r : Charted) (rs : List Charted) where
-  rest_short : left < length (record_text n r) → rest_fits n left (r ∷ rs) ≡ false
+  pub rest_short : left < length (record_text n r) → rest_fits n left (r ∷ rs) ≡ false
   unfolding rest_fits
   rest_short h = rw (rest_cons n r rs) (lt-leb (length (record_text n r) + rest_length (n + 1) rs) left (omega arith))
 
-  rest_on : length (record_text n r) ≤ left → rest_fits n left (r ∷ rs) ≡ rest_fits (n + 1) (left - length (record_text n r)) rs
+  pub rest_on : length (record_text n r) ≤ left → rest_fits n left (r ∷ rs) ≡ rest_fits (n + 1) (left - length (record_text n r)) rs
   unfolding rest_fits
   rest_on h = rw (rest_cons n r rs) (less_left (length (record_text n r)) (rest_length (n + 1) rs) left h)
 

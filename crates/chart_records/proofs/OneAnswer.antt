@@ -2,11 +2,12 @@
 -- Assumes nothing.
 use mathlib.Core.Path.{◌≡◌, sym, ◌∙◌}
 use mathlib.Core.Bool.{Bool}
+use mathlib.Core.List.{List}
 use Prim.Native.Nat.{ℕ}
 use lib.ListN.{length, get_or}
 use Rattle.house.specs.Text.{Text}
 use Rattle.chart_definitions.specs.Charts.{record_kind, widths_of, body_width, is_chart}
-use Rattle.chart_records.specs.Reading.{record_end, fits_in}
+use Rattle.chart_records.specs.Reading.{record_end, fits_in, measured, notes_of, noted_end}
 
 one : {A : Type 0} {x r q : A} → r ≡ x → q ≡ x → r ≡ q
 one e f = e ∙ sym f
@@ -31,3 +32,10 @@ is_chart_lem s r q = one
 
 fits : (s : Text) (room : ℕ) (r q : Bool) → r ≡ fits_in s room → q ≡ fits_in s room → r ≡ q
 fits s room r q = one
+
+measure : (s : Text) (room : ℕ) (ns : List ℕ) (r q : ℕ) (after later : List ℕ) → r ≡ measured s room → q ≡ measured s room
+    → after ≡ notes_of s ns → later ≡ notes_of s ns → (r ≡ q) × (after ≡ later)
+measure s room ns r q after later e f g h = (one e f, one g h)
+
+noted_end_lem : (s : Text) (ns : List ℕ) (at r q : ℕ) → r ≡ noted_end s ns at → q ≡ noted_end s ns at → r ≡ q
+noted_end_lem s ns at r q = one

@@ -1,16 +1,15 @@
 -- What the crate's own functions answer: cited by private contracts and by laws alone. No public contract rests on this page.
 -- Assumes nothing.
-use Rattle.std.specs.Prelude.{ℕ, ◌+◌, Bool, false, cond, ◌&&◌, List, ◌++◌, length, get_or, take, drop, eqb, ltb, leb}
-use Rattle.house.specs.Text.{Text, all, joined}
+use Rattle.std.specs.Prelude.{ℕ, ◌+◌, ◌-◌, ◌/◌, Bool, true, false, cond, ◌&&◌, List, [], ◌++◌, length, get_or, set, eqb, ltb, leb}
+use Rattle.house.specs.Text.{Text, all, is_blank, joined}
 use Rattle.house.specs.Numbers.{lesser_of}
 use Rattle.lines.specs.Lines.{pipe}
-use Rattle.lines.specs.Shape.{follows}
-use Rattle.chart_definitions.specs.Charts.{Charted, record_kind, widths_of, body_width, cut, is_field_byte, well_formed, ordered}
-use Rattle.chart_definitions.specs.Submissions.{piped, line_text, records_text, footer_fields}
-
--- the record at a position of a chart
-unfoldable pub charted_at : Text → ℕ → Charted
-charted_at s at = record { kind = record_kind (get_or s at 0); body = take (body_width (record_kind (get_or s at 0))) (drop (at + 1) s) }
+use Rattle.chart_definitions.specs.Charts.{Charted, widths_of, cut, is_field_byte, well_formed, ordered}
+use Rattle.chart_definitions.specs.Submissions.{piped, line_text, records_text, footer_fields, RECORD, ROOM}
+use Rattle.chart_records.specs.Reading.{record_end, comment_start, has_no_comment, note_width, note_bound}
+use Rattle.chart_records.specs.declared.Spare.{Spare}
+-- the crates above name them from here too
+unfoldable pub use Rattle.chart_records.specs.Reading.{charted_at, right_after}
 
 -- a byte where the greatest is looked for: a pipe counts as the greatest of all
 unfoldable pub lifted_of : ℕ → ℕ
@@ -20,9 +19,21 @@ lifted_of b = cond (eqb b pipe) 255 b
 unfoldable pub fields_in : ℕ → ℕ → Text → Bool
 fields_in l h t = cond (ltb l 32) false (cond (ltb 126 h) false (all is_field_byte t))
 
--- a record of right form that may follow one of kind p
-unfoldable pub right_after : ℕ → Charted → Bool
-right_after p r = well_formed r && follows p r.kind
+-- the form of bytes: 0 where not each may stand in a field, 1 where all are blanks, else 2
+unfoldable pub form_of : Text → ℕ
+form_of t = cond (all is_field_byte t) (cond (all is_blank t) 1 2) 0
+
+-- and so where the bytes before these are no less than l and no greater than h, a blank being among them
+unfoldable pub form_in : ℕ → ℕ → Text → ℕ
+form_in l h t = cond (ltb l 32) 0 (cond (ltb 126 h) 0 (cond (all is_field_byte t) (cond (ltb 32 h) 2 (cond (all is_blank t) 1 2)) 0))
+
+-- where the given fields of the record at a position end: before the comment of an immunization that has none
+unfoldable pub given_end : Text → ℕ → ℕ
+given_end s at = cond (has_no_comment (charted_at s at)) (at + 1 + comment_start) (record_end s at)
+
+-- the notes with that of a position, where given fields end where the comment of an immunization starts
+unfoldable pub note_if : ℕ → ℕ → List ℕ → List ℕ
+note_if at end notes = cond (eqb end (at + 1 + comment_start) && ltb at note_bound) (set notes (at / note_width) (at + 1)) notes
 
 -- these records are of right form, and their order is right after one of kind p
 unfoldable pub right_from : ℕ → List Charted → Bool
@@ -47,3 +58,19 @@ rest_length n rs = length (records_text n rs ++ line_text (footer_fields (length
 -- they take so many bytes at most
 unfoldable pub rest_fits : ℕ → ℕ → List Charted → Bool
 rest_fits n left rs = leb (rest_length n rs) left
+
+-- what is left of room, and whether it has run out
+abbrev pub spare : ℕ → Bool → Spare
+spare left over = record { left = left; over = over }
+
+-- behind a line of so many bytes
+unfoldable pub spare_after : ℕ → Bool → ℕ → Spare
+spare_after left over long = cond over (spare 0 true) (cond (ltb left long) (spare 0 true) (spare (left - long) false))
+
+-- what measuring answers where it ends, by whether the chart is right; n would be the number of the next record
+unfoldable pub answer_of : Bool → ℕ → ℕ → Bool → ℕ
+answer_of right n left over = cond right (cond over ROOM (cond (rest_fits n left []) 0 ROOM)) RECORD
+
+-- what it answers, where these records are left, the first being number n and the one before it of kind p
+unfoldable pub measured_from : ℕ → ℕ → ℕ → Bool → List Charted → ℕ
+measured_from p n left over rs = cond (right_from p rs) (cond over ROOM (cond (rest_fits n left rs) 0 ROOM)) RECORD

@@ -2,7 +2,8 @@
 ghost use Rattle.std.specs.Prelude.{◌≡◌, ◌<◌, length};
 ghost use Rattle.house.specs.Text.{all};
 ghost use Rattle.chart_definitions.specs.Charts.{is_field_byte, is_chart};
-ghost use Rattle.chart_records.specs.Inside.{charted_at, lifted_of, right_after};
+ghost use Rattle.chart_records.specs.Reading.{charted_at, right_after};
+ghost use Rattle.chart_records.specs.Inside.{lifted_of};
 
 use crate::kinds::{body_width, kind_at, record_end};
 use house::{greater_byte, lesser_byte};
@@ -12,7 +13,7 @@ use lines::{IF, IH, may_follow};
 const GREATEST: u8 = 255;
 
 // A byte where the greatest is looked for: a pipe counts as the greatest of all.
-fn lifted(b: u8) -> u8
+pub(crate) fn lifted(b: u8) -> u8
     ensures { result ≡ lifted_of b }
 {
     if b == b'|' {

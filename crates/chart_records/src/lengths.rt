@@ -4,8 +4,8 @@ ghost use Rattle.blanks.specs.Blanks.{trimmed};
 ghost use Rattle.writing.specs.Writing.{decimal};
 ghost use Rattle.chart_definitions.specs.Charts.{widths_of};
 ghost use Rattle.chart_definitions.specs.Submissions.{type_text, record_text};
-ghost use Rattle.chart_records.specs.Reading.{fits_in};
-ghost use Rattle.chart_records.specs.Inside.{charted_at, field_end, cut_length, given_length};
+ghost use Rattle.chart_records.specs.Reading.{charted_at, fits_in};
+ghost use Rattle.chart_records.specs.Inside.{field_end, cut_length, given_length};
 
 use crate::kinds::{ahead, kind_at, record_end};
 use crate::widths::{width_at, width_count};
@@ -13,13 +13,13 @@ use lines::{IA, IE, II, IN, IP};
 use writing::number_length;
 
 // Beside type, number and fields a record's line has the pipes behind type and number, and LF.
-const MARKS: usize = 3;
+pub(crate) const MARKS: usize = 3;
 
 // Beside its count the footer has IF, 0, three pipes and LF.
-const FOOTER: usize = 7;
+pub(crate) const FOOTER: usize = 7;
 
 // How long the record type of a kind is.
-fn type_length(kind: u8) -> usize
+pub(crate) fn type_length(kind: u8) -> usize
     ensures value { result ≡ length (type_text kind) }
     ensures upper_bound { result ≤ 2 }
 {
@@ -54,16 +54,21 @@ fn field_length(body: &[u8], at: usize, end: usize) -> usize
     field.len()
 }
 
-// How many bytes are written of a record's fields: of each what is left without the blanks at its ends, and its pipe.
-fn fields_length(body: &[u8], kind: u8) -> usize
+// How many bytes are written of a record's fields: of each what is left without the blanks at its ends, and its pipe. Of those behind the last
+// byte that is no blank only the pipes are counted.
+pub(crate) fn fields_length(body: &[u8], kind: u8) -> usize
     ensures value { result ≡ cut_length (widths_of kind) body.now }
     ensures upper_bound { result ≤ length body.now + 25 }
 {
     let count = width_count(kind);
+    let body = blanks::trim_end(body);
     let mut long = 0;
     let mut at = 0;
     let mut i = 0;
     while i < count {
+        if body.len() <= at {
+            return long + (count - i);
+        }
         let end = field_end(body, at, kind, i);
         long += field_length(body, at, end) + 1;
         at = end;
@@ -84,7 +89,7 @@ fn given_length(chart: &[u8], at: usize) -> usize
 }
 
 // How many digits a number has.
-fn digits(n: usize) -> usize
+pub(crate) fn digits(n: usize) -> usize
     ensures value { result ≡ length (decimal n) }
     ensures upper_bound { result ≤ 20 }
 {

@@ -1,12 +1,24 @@
-// Charts as they are read: kinds, widths, form, and how long the written lines are.
+// Charts as they are read: kinds, widths, form, how long the written lines are, and what is noted of records.
 #![tactic(auto)]
 
 mod form;
+mod given;
 mod kinds;
 mod lengths;
+mod measures;
+mod notes;
 mod widths;
 
 pub use form::is_chart;
 pub use kinds::{body_width, kind_at, record_end};
 pub use lengths::fits;
+pub use measures::measure;
+pub use notes::noted_end;
 pub use widths::{width_at, width_count};
+
+// How much is left of the room, and whether it has run out.
+#[derive(Clone, Copy)]
+struct Spare {
+    left: usize,
+    over: bool,
+}

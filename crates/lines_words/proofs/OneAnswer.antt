@@ -5,9 +5,10 @@ use mathlib.Core.Bool.{Bool}
 use mathlib.Core.List.{List}
 use Prim.Native.Nat.{ℕ}
 use lib.ListN.{length}
-use Rattle.house.specs.Text.{Text, same}
+use Rattle.house.specs.Text.{Text, same, order_of}
+use Rattle.house.specs.declared.Order.{Order}
 use Rattle.house.specs.Over.{over}
-use Rattle.lines_words.specs.Words.{event_hash, key_at, in_order, has_between, found_at, keys_among, apart}
+use Rattle.lines_words.specs.Words.{chart_event, event_hash, key_at, in_order, has_between, found_at, keys_among, apart}
 
 module _ (s : Text) (what : ℕ) (es : List ℕ) where
   pub sort_one : (x y : List ℕ) → x ≡ in_order (key_at what s) es → y ≡ in_order (key_at what s) es → x ≡ y
@@ -28,6 +29,9 @@ module _ (s : Text) (what : ℕ) (es : List ℕ) where
   pub keep_apart_one : (x y : ℕ) (a b : List ℕ) → x ≡ length (apart (key_at what s) es) → y ≡ length (apart (key_at what s) es)
       → a ≡ over (apart (key_at what s) es) es → b ≡ over (apart (key_at what s) es) es → (x ≡ y) × (a ≡ b)
   keep_apart_one x y a b p q u v = (cc, cc)
+
+pub event_order_one : (s : Text) (e f : ℕ) (x y : Order) → x ≡ order_of (chart_event s e) (chart_event s f) → y ≡ order_of (chart_event s e) (chart_event s f) → x ≡ y
+event_order_one s e f x y p q = cc
 
 pub event_hash_one : (s : Text) (e x y : ℕ) → x ≡ event_hash s e → y ≡ event_hash s e → x ≡ y
 event_hash_one s e x y p q = cc

@@ -112,7 +112,7 @@ fn submitted_order(chart: &[u8], e: u32, f: u32) -> Order
 }
 
 // How the events of two records stand.
-pub(crate) fn event_order(chart: &[u8], e: u32, f: u32) -> Order
+pub fn event_order(chart: &[u8], e: u32, f: u32) -> Order
     ensures { result ≡ order_of (chart_event chart.now e) (chart_event chart.now f) }
 {
     let p = e as usize;

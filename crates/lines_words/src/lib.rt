@@ -8,6 +8,7 @@ mod keys;
 mod sorting;
 
 pub use asked::{find_entry, has_between, keep_apart, keys_among, one_key};
+pub use events::event_order;
 pub use hashes::event_hash;
 pub use sorting::sort;
 
