@@ -33,8 +33,8 @@ endif
 all: $(COMMAND)
 
 $(PROVED): $(SOURCES)
-	@echo 'The library is proved before it is written: from nothing that takes a quarter of an hour on two processors.'
-	RT_JOBS=$${RT_JOBS:-$$(($$(nproc) + 1))} rt staticlib tuulveski
+	@echo 'The library is proved before it is written: from nothing that takes long.'
+	tools/library
 	@touch $@
 
 $(COMMAND): $(OBJECTS) $(LIBRARY)
