@@ -115,6 +115,25 @@ fn walk_in_medium_room(
     walk(file, table, ledger, book, by, firsts, area, &mut room)
 }
 
+// The same in a room of a size. The size is a parameter, since a room as large as the largest is too long a list to be counted out in a proof.
+fn walk_in_room_of<const ROOM: usize>(
+    file: &[u8],
+    table: &[u8],
+    ledger: &[u8],
+    book: &[u8],
+    by: By,
+    firsts: &mut [u32],
+    area: &mut [u8],
+) -> Walked
+    requires file_bound { length file.now ≤ file_most }
+    requires room_bound { ROOM ≤ 1000000 }
+    ensures { WalkIs (setting_by by book.now ledger.now)
+        file.now table.now area.old firsts.old result area.new firsts.new }
+{
+    let mut room = [0u32; ROOM];
+    walk(file, table, ledger, book, by, firsts, area, &mut room)
+}
+
 // The same in a room for all the lists that a file can have.
 fn walk_in_large_room(
     file: &[u8],
@@ -129,8 +148,7 @@ fn walk_in_large_room(
     ensures { WalkIs (setting_by by book.now ledger.now)
         file.now table.now area.old firsts.old result area.new firsts.new }
 {
-    let mut room = [0u32; LARGE_ROOM];
-    walk(file, table, ledger, book, by, firsts, area, &mut room)
+    walk_in_room_of::<LARGE_ROOM>(file, table, ledger, book, by, firsts, area)
 }
 
 // The same in a room for the lists of a file that is not short. It is called at two places, and lends two rooms: so the compiler gives it a frame of

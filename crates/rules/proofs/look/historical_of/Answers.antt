@@ -1,0 +1,8 @@
+use Rattle.rules.proofs.LookNeeds.{for_line}
+use Rattle.rules.proofs.look.historical_of.Goals as goal
+
+pub returns-then-k-eq-II : goal.returns-then-k-eq-II
+returns-then-k-eq-II c = search for_line
+
+pub returns-else-k-eq-II : goal.returns-else-k-eq-II
+returns-else-k-eq-II c = search for_line
