@@ -22,7 +22,7 @@ COMPILE = $(CC) -std=c99 -pthread -Iinclude $(CPPFLAGS) $(CFLAGS)
 LINK = $(CC) -pthread $(CFLAGS) $(LDFLAGS)
 VERSION := $(shell sed -n 's/^.define TUULVESKI_VERSION "\(.*\)"/\1/p' include/tuulveski.h)
 
-SOURCES := crates.txt $(shell find crates -name '*.rt' -o -name '*.antt')
+SOURCES := crates.txt $(shell find crates -name out -prune -o '(' -name '*.rt' -o -name '*.antt' ')' -print)
 # What `make install` installs is what was built: a library that is there is not proved again for it.
 ifeq ($(MAKECMDGOALS),install)
 ifneq ($(wildcard $(PROVED)),)

@@ -1,21 +1,21 @@
 -- What each need of `take_off`, `answer` and `measure` asks.
 -- Assumes nothing.
 use mathlib.Core.Path.{◌≡◌, refl, sym, ap, ◌∙◌}
-use mathlib.Core.Bool.{Bool, true, false, cond, ◌&&◌}
-use mathlib.Core.List.{List, [], ◌∷◌, ◌++◌}
-use Prim.Native.Nat.{ℕ, suc, ◌+◌, ◌-◌, ◌≤◌, ◌<◌}
+use mathlib.Core.Bool.{Bool, true, false, cond}
+use mathlib.Core.List.{List, [], ◌∷◌}
+use Prim.Native.Nat.{ℕ, ◌+◌, ◌-◌, ◌≤◌, ◌<◌}
 use native.Mathlib.Omega.{arith}
 use borrow.Author.Rules.{rules}
-use borrow.Author.Tests.{lt-ltb, le-ltb, ltb-true, ltb-false, lt-leb, le-leb, leb-true, leb-false}
-use lib.Dec.{ltb, leb}
-use lib.ListN.{length, get_or, drop, length-append}
-use Rattle.house.specs.Text.{Text, all}
+use borrow.Author.Tests.{lt-ltb, le-ltb, ltb-true, ltb-false, lt-leb, le-leb}
+use lib.Dec.{ltb}
+use lib.ListN.{length, get_or, drop}
+use Rattle.house.specs.Text.{Text}
 use Rattle.house.proofs.Small.{both, clash}
 use Rattle.writing.specs.Writing.{decimal}
 use Rattle.lines.specs.Records.{IH, IF}
 use Rattle.lines.specs.Shape.{follows}
-use Rattle.chart_definitions.specs.Charts.{Charted, record_kind, body_width, charted_in, well_formed, ordered, is_chart}
-use Rattle.chart_definitions.specs.Submissions.{line_text, record_text, records_text, footer_fields, RECORD, ROOM}
+use Rattle.chart_definitions.specs.Charts.{Charted, record_kind, body_width, charted_in, well_formed, is_chart}
+use Rattle.chart_definitions.specs.Submissions.{record_text, RECORD, ROOM}
 use Rattle.chart_records.specs.declared.Spare.{Spare}
 use Rattle.chart_records.specs.Reading.{charted_at, record_end, right_after, fits_in, measured, note_of, notes_from, notes_of}
 use Rattle.chart_records.specs.Inside.{given_end, note_if, right_from, rest_length, rest_fits, spare, spare_after, answer_of, measured_from}

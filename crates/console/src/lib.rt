@@ -5,9 +5,16 @@ mod input;
 mod output;
 
 ghost use Rattle.std.specs.Prelude.{◌≡◌, length};
-ghost use Rattle.io.specs.Counts.{IsPrefixLen};
+ghost use Rattle.std.specs.Io.{ReadsAtMost};
 
 pub use input::answer;
+use std::fs::File;
+use std::io;
+use std::io::Read;
+use std::rt::Files;
+
+// Of an input that is longer no more is read: it is too long all the same.
+const MOST_READ: usize = 65536;
 
 // "room for 1,000 findings"
 pub(crate) const MOST_FINDINGS: usize = 1000;
@@ -22,26 +29,40 @@ fn findings_area() -> [u8; AREA]
     [0; AREA]
 }
 
-// Reads a file by name; a missing file is empty. It answers how many bytes it put at the start of the space.
-fn read_file(name: &[u8], space: &mut [u8]) -> usize
-    ensures { IsPrefixLen result space.new }
+// Reads until the space is full or the input ends. It answers how many bytes it put at the start of the space.
+fn read_full(reader: &mut impl Read, space: &mut [u8]) -> io::Result<usize>
+    ensures { ReadsAtMost result space.new }
 {
-    let fd = os::open_read(name);
-    if fd < 0 {
-        return io::count(0, space);
+    let mut done = 0;
+    while done < space.len() {
+        let n = reader.read(&mut space[done..])?;
+        if n == 0 {
+            break;
+        }
+        done += n;
     }
-    io::read_full(fd, space)
+    Ok(done)
+}
+
+// Reads a file by name; a missing file is empty. It answers how many bytes it put at the start of the space.
+fn read_file(rt: &impl Files, name: &str, space: &mut [u8]) -> io::Result<usize>
+    ensures { ReadsAtMost result space.new }
+{
+    match File::open(rt, name) {
+        Ok(mut file) => read_full(&mut file, space),
+        Err(_) => Ok(0),
+    }
 }
 
 // Reads today and the submission from standard input, the book and the ledger by name, and prints the answer. It writes no file.
-pub fn run() {
-    let mut input = io::large_buffer();
-    let n = io::read_full(0, &mut input);
-    let mut book = io::large_buffer();
-    let b = read_file(b"codes.bin", &mut book);
-    let mut ledger = io::large_buffer();
-    let l = read_file(b"ledger.bin", &mut ledger);
+pub fn run(rt: &(impl Files + Input + Print)) -> io::Result<()> {
+    let mut input = [0u8; MOST_READ];
+    let n = read_full(&mut rt.reader(), &mut input)?;
+    let mut book = [0u8; MOST_READ];
+    let b = read_file(rt, "codes.bin", &mut book)?;
+    let mut ledger = [0u8; MOST_READ];
+    let l = read_file(rt, "ledger.bin", &mut ledger)?;
     let mut area = findings_area();
     let a = answer(&input[..n], &book[..b], &mut ledger[..l], &mut area);
-    output::print(a, &area);
+    output::print(rt, a, &area)
 }

@@ -4,6 +4,7 @@ ghost use Rattle.answers.specs.Answers.{numbers_of};
 
 use crate::MOST_FINDINGS;
 use answers::Answer;
+use std::io;
 
 // A count, as a number to print.
 fn long(n: usize) -> u64
@@ -50,39 +51,41 @@ fn numbers_of(a: Answer) -> [u64; 8]
 }
 
 // Prints numbers on a line.
-fn on_a_line(numbers: &[u64]) {
+fn on_a_line(rt: &impl Print, numbers: &[u64]) -> io::Result<()> {
     let mut i = 0;
     while i < numbers.len() {
         if 0 < i {
-            io::write_all(1, b" ");
+            rt.write_all(b" ")?;
         }
-        io::print_decimal(1, numbers[i]);
+        rt.print(numbers[i])?;
         i += 1;
     }
-    io::write_all(1, b"\n");
+    rt.write_all(b"\n")
 }
 
 // Prints the finding that starts at a position of the area, where a whole one does.
-fn finding(area: &[u8], at: usize) {
+fn finding(rt: &impl Print, area: &[u8], at: usize) -> io::Result<()> {
     if at < area.len() {
         if 6 <= area.len() - at {
             let line = house::number_at(area, at + 1);
             let field = wide(area[at + 5]);
             let rule = wide(area[at]);
-            on_a_line(&[line as u64, field, rule]);
+            on_a_line(rt, &[line as u64, field, rule])?;
         }
     }
+    Ok(())
 }
 
 // Prints an answer, and the findings kept in their area.
-pub(crate) fn print(a: Answer, area: &[u8]) {
+pub(crate) fn print(rt: &impl Print, a: Answer, area: &[u8]) -> io::Result<()> {
     let numbers = numbers_of(a);
-    on_a_line(&numbers);
+    on_a_line(rt, &numbers)?;
     let mut i = 0;
     while i < MOST_FINDINGS {
         if (i as u64) < numbers[3] {
-            finding(area, 6 * i);
+            finding(rt, area, 6 * i)?;
         }
         i += 1;
     }
+    Ok(())
 }

@@ -38,7 +38,7 @@ fn kind_cause(p: u8, k: u8, n: usize) -> u8
 // The lowest cause at a line after a record of kind p, 0 for none. Its bytes are asked where its file is not plain.
 fn line_cause(text: &[u8], ended: bool, p: u8, plain: bool) -> u8
     requires { plain ≡ true → printable text.now ≡ true }
-    ensures { result ≡ cause_of p (record { text = text.entry.now; ended = ended }) }
+    ensures { result ≡ cause_of p (record { text = text.now; ended = ended }) }
 {
     if !ended {
         return 1;

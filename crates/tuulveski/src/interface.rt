@@ -1,4 +1,4 @@
-// The C interface: include/tuulveski.h declares it.
+// What C is given: include/tuulveski.h declares it, and the static library tuulveski_c exports it.
 ghost use Rattle.std.specs.Prelude.{◌≡◌, ◌<◌};
 ghost use Rattle.answers.specs.Answers.{lent, numbers_of};
 ghost use Rattle.chart_definitions.specs.Submissions.{request, Writes};
@@ -102,8 +102,7 @@ fn numbers_of(a: Answer) -> Numbers
 }
 
 // The check, its answer as numbers.
-#[unsafe(no_mangle)]
-pub extern "C" fn tuulveski_check(
+pub fn tuulveski_check(
     today: u32,
     file: &[u8],
     book: &[u8],
@@ -118,8 +117,7 @@ pub extern "C" fn tuulveski_check(
 }
 
 // Field `field` of line `line`, both counted from 1, in a file of any shape.
-#[unsafe(no_mangle)]
-pub extern "C" fn tuulveski_field(file: &[u8], line: usize, field: usize) -> FieldAt
+pub fn tuulveski_field(file: &[u8], line: usize, field: usize) -> FieldAt
     ensures { result ≡ field_at file.now line field }
 {
     let present = lines::has_field(file, line, field);
@@ -133,13 +131,7 @@ pub extern "C" fn tuulveski_field(file: &[u8], line: usize, field: usize) -> Fie
 }
 
 // Line `line`, found by going on from line `number`, which starts at a position.
-#[unsafe(no_mangle)]
-pub extern "C" fn tuulveski_line_from(
-    file: &[u8],
-    start: usize,
-    number: usize,
-    line: usize,
-) -> LineFrom
+pub fn tuulveski_line_from(file: &[u8], start: usize, number: usize, line: usize) -> LineFrom
     ensures { result ≡ line_from file.now start number line }
 {
     if line <= number {
@@ -153,8 +145,7 @@ pub extern "C" fn tuulveski_line_from(
 }
 
 // Field `field`, counted from 1, of the line that starts at a position.
-#[unsafe(no_mangle)]
-pub extern "C" fn tuulveski_field_from(file: &[u8], start: usize, field: usize) -> FieldAt
+pub fn tuulveski_field_from(file: &[u8], start: usize, field: usize) -> FieldAt
     ensures { result ≡ field_from file.now start field }
 {
     let place = lines::find_field(file, start, field);
@@ -166,13 +157,7 @@ pub extern "C" fn tuulveski_field_from(file: &[u8], start: usize, field: usize) 
 }
 
 // Writes a submission from a chart into an area.
-#[unsafe(no_mangle)]
-pub extern "C" fn tuulveski_write(
-    prefix: &[u8],
-    batch: &[u8],
-    chart: &[u8],
-    out: &mut [u8],
-) -> Written
+pub fn tuulveski_write(prefix: &[u8], batch: &[u8], chart: &[u8], out: &mut [u8]) -> Written
     ensures { Writes (request prefix.now batch.now chart.now out.old)
         result.answer result.length out.new }
 {

@@ -4,5 +4,6 @@
 mod interface;
 
 pub use interface::{
-    tuulveski_check, tuulveski_field, tuulveski_field_from, tuulveski_line_from, tuulveski_write,
+    FieldAt, LineFrom, Numbers, Written, tuulveski_check, tuulveski_field, tuulveski_field_from,
+    tuulveski_line_from, tuulveski_write,
 };
