@@ -1,5 +1,4 @@
 use Rattle.chart.proofs.HintNeeds.{for_tried}
-use Rattle.chart.proofs.HintNeeds.{for_try_lots}
 use Rattle.chart.proofs.hints.try_lots.Goals as goal
 
 pub returns : goal.returns
