@@ -129,8 +129,8 @@ fn try_lots(chart: &[u8], lots: &mut [u32], marks: &mut [u64]) -> bool
     mark(chart, lots, marks)
 }
 
-// Puts lots in the order of their events, and marks them. They are arranged by their digests, and that is tested; where the test failed, which it
-// never does, they would be sorted by their events.
+// Puts lots in the order of their events, and marks them. They are arranged by their digests, and that is tested; where the test fails, as it may
+// where two events have one digest, they are sorted by their events.
 fn place_lots(chart: &[u8], lots: &mut [u32], marks: &mut [u64])
     requires { length marks.old ≡ length lots.old }
     ensures lots_after { lots.new ≡ in_order (key_at 2 chart.now) lots.old }
