@@ -14,6 +14,7 @@ mod BoundLaws
 mod LotNeeds
 mod ArrangeNeeds
 mod EventNeeds
+mod MarkNeeds
 mod HintNeeds
 mod PatientNeeds
 mod OrderNeeds
