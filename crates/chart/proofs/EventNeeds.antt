@@ -18,63 +18,35 @@ use Rattle.chart_records.specs.Reading.{record_end}
 use Rattle.chart_records.specs.Inside.{charted_at}
 use Rattle.chart_records.proofs.ChartLaws.{charted_on, charted_end, end_within, end_falls}
 use Rattle.chart.specs.declared.Spot.{Spot}
-use Rattle.chart.specs.Inside.{Can, Puts, PutsTo, Going, spot_at, is_sound, event_at, leads, run_of, lots_of, lots_in, is_among, Sorted, Ready, mark_of, Marked}
+use Rattle.chart.specs.Inside.{Can, Puts, PutsTo, Going, spot_at, is_sound, event_at, leads, run_of, lots_of, lots_in, is_among, Sorted, Ready}
 use Rattle.chart.proofs.GoingLaws.{going_start, going_can, going_on, going_end}
 use Rattle.chart.proofs.PlaceLaws.{wf_next, places_ii, places_ie, places_other, places_end, places_sorted, among_here, among_rest}
 use Rattle.chart.proofs.LotNeeds.{places_from}
 use Rattle.chart.proofs.EventLaws.{lots_none, lots_cons, event_first, event_later}
 
 -- PUT_EVENT
+module _ (s : Text) (es : List ℕ) (g : Sorted s es) (p i : ℕ) (h : i < length es) (t : get_or es i 0 ≡ p) where
+  module _ (r : Bool) (q : r ≡ leads (event_at s) es i) where
+    event_run : r ≡ true → lots_of s es (p ∷ []) ≡ run_of s es i (get_or es i 0)
+    unfolding run_of
+    event_run z = event_first s es g p i h t r q z
 
--- what a mark tells
-module _ (s : Text) (es ms : List ℕ) (m : Marked s es ms) (i : ℕ) (h : i < length es) where
-  told : (b : Bool) → leads (event_at s) es i ≡ b → get_or ms i 0 ≡ mark_of b
-  told b z = m.told i h ∙ ap mark_of z
+    pub event_can : r ≡ true → (spot : Spot) (area : Text) → Can (lots_of s es (p ∷ [])) spot area → Can (run_of s es i (get_or es i 0)) spot area
+    event_can z spot area c = subst (λ (l : List Charted). Can l spot area) (event_run z) c
 
-  told_first : get_or ms i 0 ≡ 1 → leads (event_at s) es i ≡ true
-  unfolding mark_of
-  told_first e = go (leads (event_at s) es i) refl
-    where
-      go : (b : Bool) → leads (event_at s) es i ≡ b → b ≡ true
-      go true z = refl
-      go false z = absurd (omega (arith, e, told false z))
+    pub event_puts : r ≡ true → (spot t : Spot) (before after : Text) → Puts (run_of s es i (get_or es i 0)) spot t before after
+        → Puts (lots_of s es (p ∷ [])) spot t before after
+    event_puts z spot t before after u = subst (λ (l : List Charted). Puts l spot t before after) (sym (event_run z)) u
 
-  told_later : (get_or ms i 0 ≡ 1 → ⊥) → leads (event_at s) es i ≡ false
-  unfolding mark_of
-  told_later n = go (leads (event_at s) es i) refl
-    where
-      go : (b : Bool) → leads (event_at s) es i ≡ b → b ≡ false
-      go true z = absurd (n (told true z))
-      go false z = refl
-
-  pub event_marked : i < length ms
-  event_marked = omega (arith, m.long, h)
-
-module _ (s : Text) (es : List ℕ) (g : Sorted s es) (ms : List ℕ) (m : Marked s es ms) (p i : ℕ) (h : i < length es) (t : get_or es i 0 ≡ p) where
-  event_run : get_or ms i 0 ≡ 1 → lots_of s es (p ∷ []) ≡ run_of s es i (get_or es i 0)
-  unfolding run_of
-  event_run z = event_first s es g p i h t (leads (event_at s) es i) refl (told_first s es ms m i h z)
-
-  pub event_can : get_or ms i 0 ≡ 1 → (spot : Spot) (area : Text) → Can (lots_of s es (p ∷ [])) spot area → Can (run_of s es i (get_or es i 0)) spot area
-  event_can z spot area c = subst (λ (l : List Charted). Can l spot area) (event_run z) c
-
-  pub event_puts : get_or ms i 0 ≡ 1 → (spot t : Spot) (before after : Text) → Puts (run_of s es i (get_or es i 0)) spot t before after
-      → Puts (lots_of s es (p ∷ [])) spot t before after
-  event_puts z spot t before after u = subst (λ (l : List Charted). Puts l spot t before after) (sym (event_run z)) u
-
-  pub event_none : (get_or ms i 0 ≡ 1 → ⊥) → (spot : Spot) (area : Text) → Can (lots_of s es (p ∷ [])) spot area
-      → Puts (lots_of s es (p ∷ [])) spot spot area area
-  event_none z spot area c =
-      going_end spot area (lots_of s es (p ∷ [])) (lots_of s es (p ∷ [])) spot.number spot.pos area
-      (going_start spot area (lots_of s es (p ∷ [])) c)
-      (event_later s es g p i h t (leads (event_at s) es i) refl (told_later s es ms m i h z)) spot.at
+    pub event_none : r ≡ false → (spot : Spot) (area : Text) → Can (lots_of s es (p ∷ [])) spot area → Puts (lots_of s es (p ∷ [])) spot spot area area
+    event_none z spot area c =
+        going_end spot area (lots_of s es (p ∷ [])) (lots_of s es (p ∷ [])) spot.number spot.pos area
+        (going_start spot area (lots_of s es (p ∷ [])) c) (event_later s es g p i h t r q z) spot.at
 
 pub sorted_sound : (s : Text) (es : List ℕ) → Sorted s es → all (is_sound s) es ≡ true
 sorted_sound s es g = g.sound
 
-pub ruleset for_put_event = (rules, event_marked, event_can, event_puts, event_none, sorted_sound)
-
-pub ruleset for_event_run = (sorted_sound, event_can)
+pub ruleset for_put_event = (rules, event_can, event_puts, event_none, sorted_sound)
 
 -- PUT_LOTS
 

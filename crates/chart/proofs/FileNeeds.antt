@@ -93,12 +93,6 @@ module _ (n : ℕ) where
 pub ruleset for_put_foot = (rules, foot_room, foot_room_on, foot_room_last, foot_put, foot_next)
 
 -- WHAT IS RIGHT
-pub run_long : (most : ℕ) (t : Text) → run 1 most is_letter_or_digit t ≡ true → length t ≤ most
-unfolding run
-run_long most t e =
-    let u = both (within 1 most (length t)) (all is_letter_or_digit t) e in
-    leb-true (length t) most (both (leb 1 (length t)) (leb (length t) most) u.0).1
-
 module _ (p b s a : Text) (h : is_right (request p b s a) ≡ true) where
   right_parts : (is_prefix p ≡ true) × ((is_batch b ≡ true) × (is_chart s ≡ true))
   unfolding is_right
@@ -106,6 +100,20 @@ module _ (p b s a : Text) (h : is_right (request p b s a) ≡ true) where
       let u = both (is_prefix p) (is_batch b && is_chart s) h in
       let v = both (is_batch b) (is_chart s) u.1 in
       (u.0, (v.0, v.1))
+
+  run_long : (most : ℕ) (t : Text) → run 1 most is_letter_or_digit t ≡ true → length t ≤ most
+  unfolding run
+  run_long most t e =
+      let u = both (within 1 most (length t)) (all is_letter_or_digit t) e in
+      leb-true (length t) most (both (leb 1 (length t)) (leb (length t) most) u.0).1
+
+  pub right_prefix : length p ≤ 3
+  unfolding is_prefix
+  right_prefix = run_long 3 p right_parts.0
+
+  pub right_batch : length b ≤ 10
+  unfolding is_batch
+  right_batch = run_long 10 b right_parts.1.0
 
   pub right_formed : all well_formed (charted_in s) ≡ true
   unfolding is_chart

@@ -14,7 +14,6 @@ mod BoundLaws
 mod LotNeeds
 mod ArrangeNeeds
 mod EventNeeds
-mod MarkNeeds
 mod HintNeeds
 mod PatientNeeds
 mod OrderNeeds

@@ -2,7 +2,7 @@
 -- Assumes nothing.
 use mathlib.Core.Path.{◌≡◌, refl, sym, ap, ◌∙◌}
 use mathlib.Core.Bool.{Bool, true, false, not, ◌&&◌}
-use mathlib.Core.List.{List, [], ◌∷◌, ◌++◌, append_assoc}
+use mathlib.Core.List.{[], ◌∷◌, ◌++◌, append_assoc}
 use Prim.Native.Nat.{ℕ, ◌+◌, ◌-◌, ◌≤◌, ◌<◌}
 use native.Mathlib.Omega.{arith}
 use borrow.Author.Rules.{rules}
@@ -14,8 +14,8 @@ use Rattle.house.proofs.Small.{both, clash}
 use Rattle.writing.specs.Writing.{over_from, decimal}
 use Rattle.chart_definitions.specs.Charts.{Charted, record_kind, widths_of, body_width, written_fields, is_field_byte, well_formed}
 use Rattle.chart_definitions.specs.Submissions.{piped, line_text, type_text, numbered_fields, record_text}
-use Rattle.chart_records.specs.Reading.{charted_at, record_end, is_note, noted_end}
-use Rattle.chart_records.proofs.NoteLaws.{noted_from, noted_to, noted_cut}
+use Rattle.chart_records.specs.Reading.{record_end}
+use Rattle.chart_records.specs.Inside.{charted_at}
 use Rattle.chart.specs.Inside.{fields_text, start_text}
 use Rattle.chart.proofs.RecordNeeds.{behind, still}
 
@@ -75,30 +75,38 @@ line_parts n r =
     ap (λ (t : Text). t ++ (10 ∷ [])) (sym (append_assoc (piped (type_text r.kind)) (piped (decimal n)) (joined piped (written_fields r))))
     ∙ append_assoc (piped (type_text r.kind) ++ piped (decimal n)) (joined piped (written_fields r)) (10 ∷ [])
 
-module _ (s : Text) (ns : List ℕ) (at kind end n : ℕ) (h : at < length s) (wf : well_formed (charted_at s at) ≡ true) (tn : all (is_note s) ns ≡ true)
-    (ek : kind ≡ record_kind (get_or s at 0)) (ee : end ≡ noted_end s ns at) where
+module _ (s : Text) (at kind end n : ℕ) (wf : well_formed (charted_at s at) ≡ true) (ek : kind ≡ record_kind (get_or s at 0)) (ee : end ≡ record_end s at) where
   pub record_typed : length (type_text kind) ≡ 2
   record_typed = ap (λ (k : ℕ). length (type_text k)) ek ∙ (known s at wf).0
 
+  ends : end ≡ at + 1 + body_width kind
+  ends = ee ∙ end_is s at wf ∙ ap (λ (k : ℕ). at + 1 + body_width k) (sym ek)
+
   pub record_end_lem : end ≤ length s
-  record_end_lem = omega (arith, ee, noted_to s ns at tn h wf)
+  record_end_lem = omega (arith, ee, end_is s at wf, whole s at wf)
 
   pub record_from : at + 1 ≤ end
-  record_from = omega (arith, ee, noted_from s ns at h)
+  record_from = omega (arith, ends)
 
   pub record_small : at + 1 ≤ length s
-  record_small = omega (arith, h)
+  record_small = omega (arith, record_end_lem, record_from)
 
-  given_is : fields_text kind (charted_at s at).body ≡ fields_text kind (take (end - (at + 1)) (drop (at + 1) s))
-  unfolding fields_text
-  given_is = rw (ek, ee) (ap (joined piped) (sym (noted_cut s ns at tn h wf)))
+  body_is : take (end - (at + 1)) (drop (at + 1) s) ≡ (charted_at s at).body
+  unfolding charted_at
+  body_is =
+      let z : end - (at + 1) ≡ body_width kind = omega (arith, ends) in
+      ap (λ (m : ℕ). take m (drop (at + 1) s)) z ∙ ap (λ (k : ℕ). take (body_width k) (drop (at + 1) s)) ek
+
+  pub record_body : length (take (end - (at + 1)) (drop (at + 1) s)) ≡ body_width kind
+  unfolding charted_at
+  record_body = ap length body_is ∙ formed_body (charted_at s at) wf ∙ ap body_width (sym ek)
 
   parts : record_text n (charted_at s at) ≡ start_text kind n ++ (fields_text kind (take (end - (at + 1)) (drop (at + 1) s)) ++ (10 ∷ []))
   unfolding charted_at
   parts =
       line_parts n (charted_at s at)
       ∙ ap (λ (k : ℕ). start_text k n ++ (fields_text k (charted_at s at).body ++ (10 ∷ []))) (sym ek)
-      ∙ ap (λ (t : Text). start_text kind n ++ (t ++ (10 ∷ []))) given_is
+      ∙ ap (λ (t : Text). start_text kind n ++ (fields_text kind t ++ (10 ∷ []))) (sym body_is)
 
   long : length (record_text n (charted_at s at)) ≡ length (start_text kind n) + (length (fields_text kind (take (end - (at + 1)) (drop (at + 1) s))) + 1)
   long =
@@ -139,4 +147,4 @@ module _ (s : Text) (ns : List ℕ) (at kind end n : ℕ) (h : at < length s) (w
         record_next r h = omega (arith, h, long, em, el)
 
 pub ruleset for-put-record =
-    (rules, record_typed, record_end_lem, record_from, record_small, record_start_room, record_fields_room, record_lf_room, record_put, record_next)
+    (rules, record_typed, record_end_lem, record_from, record_small, record_body, record_start_room, record_fields_room, record_lf_room, record_put, record_next)

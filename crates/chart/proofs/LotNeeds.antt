@@ -1,29 +1,28 @@
 -- What each need of the functions that bring lots of one event together asks.
 -- Assumes nothing.
 use mathlib.Core.Path.{◌≡◌, refl, sym, ap, ◌∙◌, subst}
-use mathlib.Core.Bool.{Bool, true, false, not, cond}
-use mathlib.Core.List.{List, [], ◌∷◌, ◌++◌}
+use mathlib.Core.Bool.{Bool, true, false}
+use mathlib.Core.List.{List, [], ◌∷◌, ◌++◌, append_assoc, append-nil}
 use Prim.Native.Nat.{ℕ, zero, suc, ◌+◌, ◌-◌, ◌≤◌, ◌<◌}
 use native.Mathlib.Nat.{not-suc-le-zero, le_of_suc-le-suc}
 use native.Mathlib.Omega.{arith}
 use borrow.Author.Rules.{rules}
 use borrow.Author.Tests.{eq-eqb, ne_eqb}
-use lib.Dec.{eqb}
 use lib.ListN.{length, get_or, take, drop, set, length-set, length-drop}
-use lib.Seq.{get_or-drop}
+use lib.Seq.{take-suc, get_or-drop}
 use Rattle.house.specs.Text.{Text, all, front, joined, same}
 use Rattle.house.specs.Over.{over}
 use Rattle.house.proofs.Small.{both}
-use Rattle.house.proofs.Decisions.{same_true, is_same_lem}
 use Rattle.house.proofs.Suffix.{drop_here, drop_past}
 use Rattle.writing.specs.Writing.{over_from}
 use Rattle.writing.proofs.OverLaws.{over_from_none, over_from_head}
 use Rattle.lines.specs.Records.{II, IE}
+use Rattle.lines_words.specs.Words.{key_at}
 use Rattle.chart_definitions.specs.Charts.{Charted, record_kind, charted_in, well_formed}
 use Rattle.chart_records.specs.Reading.{record_end}
 use Rattle.chart_records.proofs.ChartLaws.{end_within, end_falls}
 use Rattle.chart.specs.declared.Spot.{Spot}
-use Rattle.chart.specs.Inside.{Can, Puts, Going, is_sound, shot_at, lot_places, event_at, like, leads, run_of, mark_of, run_end, Marked, spot_at}
+use Rattle.chart.specs.Inside.{Can, Puts, Going, is_sound, shot_at, lot_places, event_at, like, leads, run_of, spot_at}
 use Rattle.chart.proofs.GoingLaws.{going_start, going_can, going_on, going_end}
 use Rattle.chart.proofs.PlaceLaws.{wf_next, places_ii, places_ie, places_other, places_end}
 
@@ -97,6 +96,23 @@ module _ (s : Text) (at : ℕ) (before : List ℕ) (from n : ℕ) (places : List
 pub ruleset for_gather =
     (rules, end_within, end_falls, gather_start, gather_room, gather_put, gather_skip, gather_other, gather_other_is, gather_end, gather_end_is, gather_long)
 
+-- IS_FIRST
+module _ (s : Text) (es : List ℕ) (i : ℕ) where
+  pub leads_none : i ≡ 0 → true ≡ leads (event_at s) es i
+  unfolding leads
+  leads_none e = rw (eq-eqb _ _ e)
+
+  module _ (n : i ≡ 0 → ⊥) (t : Bool) (q : t ≡ same (key_at 2 s (get_or es (i - 1) 0)) (key_at 2 s (get_or es i 0))) where
+    pub leads_not : t ≡ true → false ≡ leads (event_at s) es i
+    unfolding leads event_at
+    leads_not z = rw (ne_eqb _ _ n, ← q, z)
+
+    pub leads_here : t ≡ false → true ≡ leads (event_at s) es i
+    unfolding leads event_at
+    leads_here z = rw (ne_eqb _ _ n, ← q, z)
+
+pub ruleset for_is_first = (rules, leads_none, leads_not, leads_here)
+
 -- PUT_LOT
 
 all_at : (p : ℕ → Bool) (es : List ℕ) (j : ℕ) → all p es ≡ true → j < length es → p (get_or es j 0) ≡ true
@@ -157,104 +173,72 @@ pub ruleset for_put_each = (rules, each_start, each_can, each_end, each_long)
 pub ruleset for_each_again = (each_on)
 
 -- RUN_END
+module _ (s : Text) (es : List ℕ) (i p : ℕ) where
+  abbrev run : List ℕ
+  run = front (like (event_at s) p) (drop i es)
 
-abbrev is_later : ℕ → Bool
-is_later m = not (eqb m 1)
+  -- of the run so many have been seen, and these are left
+  pub record Ending (j : ℕ) : Type 0 where
+    pub from : i ≤ j
+    pub upto : j ≤ length es
+    pub seen : run ≡ take (j - i) (drop i es) ++ front (like (event_at s) p) (drop j es)
 
--- so many have been seen, and these are left
-pub record Running (ms : List ℕ) (i j : ℕ) : Type 0 where
-  pub left : run_end ms i ≡ j + length (front is_later (drop j ms))
+  pub ending_start : i < length es → Ending i
+  ending_start h =
+      let e : i - i ≡ 0 = omega arith in
+      record { from = omega arith; upto = omega arith; seen = ap (λ (n : ℕ). take n (drop i es) ++ run) (sym e) }
 
-pub running_start : (ms : List ℕ) (i : ℕ) → Running ms i (i + 1)
-unfolding run_end
-running_start ms i = record { left = refl }
+  module _ (j : ℕ) (g : Ending j) where
+    module _ (h : j < length es) (t : Bool) (e : t ≡ same (key_at 2 s p) (key_at 2 s (get_or es j 0))) where
+      front_here : t ≡ true → front (like (event_at s) p) (drop j es) ≡ get_or es j 0 ∷ front (like (event_at s) p) (drop (j + 1) es)
+      unfolding event_at
+      front_here z = rw (drop_here es j h, ← e, z)
 
-module _ (ms : List ℕ) (i j : ℕ) (g : Running ms i j) where
-  pub running_on : j < length ms → (get_or ms j 0 ≡ 1 → ⊥) → Running ms i (j + 1)
-  running_on h n =
-      let e : front is_later (drop j ms) ≡ get_or ms j 0 ∷ front is_later (drop (j + 1) ms) = rw (drop_here ms j h, ne_eqb (get_or ms j 0) 1 n) in
-      record { left = omega (arith, g.left, ap length e) }
+      front_none : t ≡ false → front (like (event_at s) p) (drop j es) ≡ []
+      unfolding event_at
+      front_none z = rw (drop_here es j h, ← e, z)
 
-  pub running_stop : j < length ms → get_or ms j 0 ≡ 1 → j ≡ run_end ms i
-  running_stop h z =
-      let e : front is_later (drop j ms) ≡ [] = rw (drop_here ms j h, eq-eqb (get_or ms j 0) 1 z) in
-      omega (arith, g.left, ap length e)
+      -- one more
+      more : take (j + 1 - i) (drop i es) ≡ take (j - i) (drop i es) ++ (get_or es j 0 ∷ [])
+      more =
+          let a : j + 1 - i ≡ suc (j - i) = omega (arith, g.from) in
+          let b : i + (j - i) ≡ j = omega (arith, g.from) in
+          ap (λ (n : ℕ). take n (drop i es)) a
+          ∙ take-suc (drop i es) (j - i) 0 (omega (arith, length-drop i es, g.from, h))
+          ∙ ap (λ (x : ℕ). take (j - i) (drop i es) ++ (x ∷ [])) (get_or-drop i es (j - i) 0 ∙ ap (λ (n : ℕ). get_or es n 0) b)
 
-  pub running_end : length ms ≤ j → j ≡ run_end ms i
-  running_end h = omega (arith, g.left, ap (λ (l : List ℕ). length (front is_later l)) (drop_past ms j h))
+      pub ending_on : t ≡ true → Ending (j + 1)
+      ending_on z =
+          record {
+            from = omega (arith, g.from);
+            upto = omega (arith, h);
+            seen =
+                g.seen ∙ ap (λ (l : List ℕ). take (j - i) (drop i es) ++ l) (front_here z)
+                ∙ sym (append_assoc (take (j - i) (drop i es)) (get_or es j 0 ∷ []) (front (like (event_at s) p) (drop (j + 1) es)))
+                ∙ ap (λ (l : List ℕ). l ++ front (like (event_at s) p) (drop (j + 1) es)) (sym more);
+          }
 
-pub ruleset for_run_end = (rules, running_start, running_on, running_stop, running_end)
+      pub ending_stop : t ≡ false → take (j - i) (drop i es) ≡ run
+      ending_stop z = sym (g.seen ∙ ap (λ (l : List ℕ). take (j - i) (drop i es) ++ l) (front_none z) ∙ append-nil (take (j - i) (drop i es)))
+
+    pub ending_end : length es ≤ j → take (j - i) (drop i es) ≡ run
+    ending_end h =
+        sym (g.seen ∙ ap (λ (l : List ℕ). take (j - i) (drop i es) ++ front (like (event_at s) p) l) (drop_past es j h) ∙ append-nil (take (j - i) (drop i es)))
+
+pub ruleset for_run_end = (rules, ending_start, ending_on, ending_stop, ending_end)
 
 -- PUT_RUN
+module _ (s : Text) (es : List ℕ) (i end p : ℕ) (e : take (end - i) (drop i es) ≡ front (like (event_at s) p) (drop i es)) where
+  run_is : joined (shot_at s) (take (end - i) (drop i es)) ≡ run_of s es i p
+  unfolding run_of
+  run_is = ap (joined (shot_at s)) e
 
-mark_later : (b : Bool) → is_later (mark_of (not b)) ≡ b
-unfolding mark_of
-mark_later true = refl
-mark_later false = refl
+  pub run_can : (spot : Spot) (area : Text) → Can (run_of s es i p) spot area → Can (joined (shot_at s) (take (end - i) (drop i es))) spot area
+  run_can spot area c = subst (λ (l : List Charted). Can l spot area) (sym run_is) c
 
--- lots behind lot p, each marked by the one before it: those of one event from q on, which is of the event of p
-module _ (key : ℕ → Text) (q : ℕ) where
-  front_marks : (p : ℕ) (es ms : List ℕ) → length ms ≡ length es
-      → ((k : ℕ) → k < length es → get_or ms k 0 ≡ mark_of (not (like key (get_or (p ∷ es) k 0) (get_or es k 0))))
-      → key q ≡ key p → take (length (front is_later ms)) es ≡ front (like key q) es
-  front_marks p [] [] l n w = refl
-  front_marks p [] (m ∷ ms) l n w = absurd (omega (arith, l))
-  front_marks p (e ∷ es) [] l n w = absurd (omega (arith, l))
-  front_marks p (e ∷ es) (m ∷ ms) l n w =
-      go (like key p e) refl (λ (v : key q ≡ key e). front_marks e es ms (omega (arith, l)) (λ k h. n (suc k) (omega (arith, h))) v)
-    where
-      here : is_later m ≡ like key p e
-      here = ap is_later (n 0 (omega arith)) ∙ mark_later (like key p e)
-
-      alike : like key q e ≡ like key p e
-      alike = ap (λ (u : Text). same u (key e)) w
-
-      go : (b : Bool) → like key p e ≡ b → (key q ≡ key e → take (length (front is_later ms)) es ≡ front (like key q) es)
-          → take (length (cond (is_later m) (m ∷ front is_later ms) [])) (e ∷ es) ≡ cond (like key q e) (e ∷ front (like key q) es) []
-      go true z r = rw (here, alike, z) (ap (λ (u : List ℕ). e ∷ u) (r (w ∙ same_true (key p) (key e) z)))
-      go false z r = rw (here, alike, z)
-
-module _ (s : Text) (es ms : List ℕ) (g : Marked s es ms) (i : ℕ) (h : i < length es) where
-  pub run_marked : i < length ms
-  run_marked = omega (arith, g.long, h)
-
-  pub run_within : (end : ℕ) → end ≤ length ms → end ≤ length es
-  run_within end k = omega (arith, g.long, k)
-
-  behind : (k : ℕ) → k < length (drop (i + 1) es)
-      → get_or (drop (i + 1) ms) k 0 ≡ mark_of (not (like (event_at s) (get_or (get_or es i 0 ∷ drop (i + 1) es) k 0) (get_or (drop (i + 1) es) k 0)))
-  unfolding leads
-  behind k l =
-      get_or-drop (i + 1) ms k 0 ∙ g.told (i + 1 + k) (omega (arith, l, length-drop (i + 1) es))
-      ∙ ap (λ (b : Bool). mark_of (cond b true (not (like (event_at s) (get_or es (i + 1 + k - 1) 0) (get_or es (i + 1 + k) 0))))) (ne_eqb (i + 1 + k) 0 (λ z. absurd (omega (arith, z))))
-      ∙ ap (λ (n : ℕ). mark_of (not (like (event_at s) n (get_or es (i + 1 + k) 0)))) prior
-      ∙ ap (λ (n : ℕ). mark_of (not (like (event_at s) (get_or (get_or es i 0 ∷ drop (i + 1) es) k 0) n))) (sym (get_or-drop (i + 1) es k 0))
-    where
-      prior : get_or es (i + 1 + k - 1) 0 ≡ get_or (get_or es i 0 ∷ drop (i + 1) es) k 0
-      prior =
-          let e : i + 1 + k - 1 ≡ i + k = omega arith in
-          ap (λ (n : ℕ). get_or es n 0) e ∙ sym (get_or-drop i es k 0) ∙ ap (λ (u : List ℕ). get_or u k 0) (drop_here es i h)
-
-  run_front : take (run_end ms i - i) (drop i es) ≡ front (like (event_at s) (get_or es i 0)) (drop i es)
-  unfolding run_end
-  run_front =
-      let e : i + 1 + length (front is_later (drop (i + 1) ms)) - i ≡ suc (length (front is_later (drop (i + 1) ms))) = omega arith in
-      ap (λ (k : ℕ). take k (drop i es)) e
-      ∙ rw (drop_here es i h, is_same_lem (event_at s (get_or es i 0)) (event_at s (get_or es i 0)) refl)
-      (ap (λ (u : List ℕ). get_or es i 0 ∷ u) (front_marks (event_at s) (get_or es i 0) (get_or es i 0) (drop (i + 1) es) (drop (i + 1) ms)
-      (omega (arith, length-drop (i + 1) es, length-drop (i + 1) ms, g.long)) behind refl))
-
-  module _ (end : ℕ) (e : end ≡ run_end ms i) where
-    run_is : joined (shot_at s) (take (end - i) (drop i es)) ≡ run_of s es i (get_or es i 0)
-    unfolding run_of
-    run_is = ap (λ (k : ℕ). joined (shot_at s) (take (k - i) (drop i es))) e ∙ ap (joined (shot_at s)) run_front
-
-    pub run_can : (spot : Spot) (area : Text) → Can (run_of s es i (get_or es i 0)) spot area → Can (joined (shot_at s) (take (end - i) (drop i es))) spot area
-    run_can spot area c = subst (λ (l : List Charted). Can l spot area) (sym run_is) c
-
-    pub run_puts : (spot r : Spot) (before after : Text) → Puts (joined (shot_at s) (take (end - i) (drop i es))) spot r before after
-        → Puts (run_of s es i (get_or es i 0)) spot r before after
-    run_puts spot r before after u = subst (λ (l : List Charted). Puts l spot r before after) run_is u
+  pub run_puts : (spot r : Spot) (before after : Text) → Puts (joined (shot_at s) (take (end - i) (drop i es))) spot r before after
+      → Puts (run_of s es i p) spot r before after
+  run_puts spot r before after u = subst (λ (l : List Charted). Puts l spot r before after) run_is u
 
 all_drop : (p : ℕ → Bool) (n : ℕ) (es : List ℕ) → all p es ≡ true → all p (drop n es) ≡ true
 all_drop p zero es h = h
@@ -269,4 +253,4 @@ all_take p (suc n) (e ∷ es) h = let q = both (p e) (all p es) h in rw q.0 (all
 pub part_sound : (s : Text) (es : List ℕ) (i n : ℕ) → all (is_sound s) es ≡ true → all (is_sound s) (take n (drop i es)) ≡ true
 part_sound s es i n h = all_take (is_sound s) n (drop i es) (all_drop (is_sound s) i es h)
 
-pub ruleset for_put_run = (rules, run_marked, run_within, run_can, run_puts, part_sound)
+pub ruleset for_put_run = (rules, run_can, run_puts, part_sound)

@@ -33,20 +33,7 @@ module _ (s : Text) (at n : ℕ) (before after : List ℕ) (p : after ≡ over (
   pub gathered_count : length (take n after) ≡ n
   gathered_count = length-take-le n after gathered_part
 
-  -- and their marks
-  module _ (marks : List ℕ) (l : length marks ≡ length before) where
-    pub marks_part : n ≤ length marks
-    marks_part = omega (arith, e, h, l)
-
-    pub marks_count : length (take n marks) ≡ n
-    marks_count = length-take-le n marks marks_part
-
-    pub marks_long : length (take n marks) ≡ length (take n after)
-    marks_long = marks_count ∙ sym gathered_count
-
-pub ruleset for_put_gathered = (rules, gathered_part, gathered_is, gathered_count, marks_part, marks_count)
-
-pub ruleset for_gathered_marks = (marks_long)
+pub ruleset for_put_gathered = (rules, gathered_part, gathered_is, gathered_count)
 
 -- PUT_PATIENT
 
@@ -68,11 +55,6 @@ module _ (s : Text) (at : ℕ) (places : List ℕ) (b : Behind s at places) wher
 
   pub behind_few : length (lot_places at (charted_in (drop at s))) ≤ length places
   behind_few = b.few
-
-pub behind_rest : (s : Text) (spot t : Spot) (before late : Text) (places : List ℕ)
-    → PutsTo s (lots_in s spot.at) (after_front of_immunization (charted_in (drop spot.at s))) spot t before late → Behind s spot.at places
-    → all well_formed (charted_in (drop t.at s)) ≡ true
-behind_rest s spot t before late places u b = ap (all well_formed) u.rest ∙ all_after of_immunization (charted_in (drop spot.at s)) b.formed
 
 module _ (s : Text) (spot : Spot) (before : Text) (c : Can (behind_at s spot.at) spot before) where
   abbrev lots : List Charted
@@ -99,6 +81,9 @@ module _ (s : Text) (spot : Spot) (before : Text) (c : Can (behind_at s spot.at)
     others_are : front (of_kinds IN IA) (charted_in (drop t.at s)) ≡ others
     others_are = ap (front (of_kinds IN IA)) u.rest
 
+    pub behind_rest : all well_formed (charted_in (drop spot.at s)) ≡ true → all well_formed (charted_in (drop t.at s)) ≡ true
+    behind_rest wf = ap (all well_formed) u.rest ∙ all_after of_immunization (charted_in (drop spot.at s)) wf
+
     pub behind_others : Can (front (of_kinds IN IA) (charted_in (drop t.at s))) t late
     behind_others =
         subst (λ (l : List Charted). Can l t late) (sym others_are)
@@ -118,9 +103,11 @@ module _ (s : Text) (spot : Spot) (before : Text) (c : Can (behind_at s spot.at)
           rest = v.rest ∙ ap (after_front (of_kinds IN IA)) u.rest;
         }
 
+pub ruleset for_put_behind = (rules, behind_puts)
+
 pub ruleset for_behind_lots = (behind_formed, behind_short, behind_few, behind_lots)
 
-pub ruleset for_behind_others = (behind_others)
+pub ruleset for_behind_others = (behind_formed, behind_rest, behind_others)
 
 -- PUT_PATIENT
 module _ (s : Text) (spot : Spot) (before : Text) (c : Can (patient_at s spot.at) spot before) where
@@ -168,6 +155,4 @@ module _ (s : Text) (spot : Spot) (before : Text) (c : Can (patient_at s spot.at
           rest = v.rest ∙ ap (rest_at s) q;
         }
 
-pub ruleset for_put_patient = (rules, patient_can)
-
-pub ruleset for_patient_behind = (patient_behind, patient_rest)
+pub ruleset for_put_patient = (rules, patient_can, patient_behind, patient_rest, patient_puts)

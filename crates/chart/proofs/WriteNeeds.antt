@@ -1,15 +1,15 @@
--- What each need of `room_left`, `answer_for`, `put_file`, `put_in_room` and `write` asks.
+-- What each need of `has_room_lem`, `put_file`, `put_in_room`, `is_right_lem` and `write` asks.
 -- Assumes nothing.
 use mathlib.Core.Path.{◌≡◌, refl, sym, ap, ◌∙◌}
-use mathlib.Core.Bool.{Bool, true, false, not, cond, ◌||◌}
+use mathlib.Core.Bool.{Bool, true, false, not, ◌||◌}
 use mathlib.Core.List.{List, [], ◌++◌}
-use Prim.Native.Nat.{ℕ, zero, suc, ◌+◌, ◌-◌, ◌≤◌, ◌<◌}
+use Prim.Native.Nat.{ℕ, ◌+◌, ◌-◌, ◌≤◌, ◌<◌}
 use native.Mathlib.Omega.{arith}
 use borrow.Author.Rules.{rules}
 use borrow.Author.Tests.{le-ltb, ltb-true, ltb-false, le-leb, lt-leb, leb-true, leb-false}
 use lib.Dec.{ltb, leb}
-use lib.ListN.{length, drop, replicate, length-append}
-use Rattle.house.specs.Text.{Text, all}
+use lib.ListN.{length, drop, length-append}
+use Rattle.house.specs.Text.{Text}
 use Rattle.house.specs.Numbers.{lesser_of}
 use Rattle.writing.specs.Writing.{over_from}
 use Rattle.writing.proofs.OverLaws.{over_from_start}
@@ -18,15 +18,13 @@ use Rattle.chart_definitions.specs.Charts.{charted_in, is_chart}
 use Rattle.chart_definitions.specs.Lots.{in_writing_order}
 use Rattle.chart_definitions.specs.Submissions.{line_text, records_text, footer_fields, other_lines, request, leaves, records_of, file_of, is_right, is_too_long, finished, file_most, write, Writes}
 use Rattle.chart_definitions.proofs.WritingOrderLaws.{order_length, order_text}
-use Rattle.chart_records.specs.Reading.{fits_in, measured, is_note, notes_of}
-use Rattle.chart_records.proofs.LengthLaws.{line_length}
-use Rattle.chart_records.proofs.NoteLaws.{notes_true}
+use Rattle.chart_records.specs.Reading.{fits_in}
 use Rattle.chart.specs.declared.Spot.{Spot}
-use Rattle.chart.specs.Inside.{Can, Puts, spot_at, Patients, head_text, foot_text, fits_room, room_left, answer_for, Fitting}
+use Rattle.chart.specs.Inside.{Can, Puts, spot_at, Patients, head_text, foot_text, fits_room, Fitting}
 use Rattle.chart.proofs.GoingLaws.{text_most}
 use Rattle.chart.proofs.RecordNeeds.{behind, still}
 use Rattle.chart.proofs.BoundLaws.{chart_bound}
-use Rattle.chart.proofs.FileNeeds.{in_order_of, file_parts, file_long, head_long, run_long, right_formed, right_order}
+use Rattle.chart.proofs.FileNeeds.{in_order_of, file_parts, file_long, head_long, right_prefix, right_batch, right_formed, right_order}
 
 -- the lesser of two numbers
 least : (m n k : ℕ) → k ≡ lesser_of m n → (k ≤ m) × ((k ≤ n) × ((l : ℕ) → l ≤ m → l ≤ n → l ≤ k))
@@ -49,34 +47,7 @@ leb_moved h l m k = go (leb (h + l) m) refl
     go true e = le-leb l (m - h) (omega (arith, k, leb-true (h + l) m e))
     go false e = lt-leb l (m - h) (omega (arith, k, leb-false (h + l) m e))
 
--- ROOM_LEFT
-pub prefix_short : (p : Text) → is_prefix p ≡ true → length p ≤ 3
-unfolding is_prefix
-prefix_short p h = run_long 3 p h
-
-pub batch_short : (b : Text) → is_batch b ≡ true → length b ≤ 10
-unfolding is_batch
-batch_short b h = run_long 10 b h
-
-module _ (p b : Text) (u : is_prefix p ≡ true) (v : is_batch b ≡ true) where
-  pub left_head : 14 + length p < 18446744073709551616
-  left_head = omega (arith, prefix_short p u)
-
-  pub left_head_on : 14 + length p + length b < 18446744073709551616
-  left_head_on = omega (arith, prefix_short p u, batch_short b v)
-
-module _ (room most head : ℕ) (p b : Text) (m : most ≡ lesser_of room 5000000) (h : head ≡ 14 + length p + length b) where
-  pub left_none : most < head → 0 ≡ room_left p b room
-  unfolding room_left
-  left_none k = omega (arith, k, h, m)
-
-  pub left_some : head ≤ most → most - head ≡ room_left p b room
-  unfolding room_left
-  left_some k = omega (arith, h, m)
-
-pub ruleset for_room_left = (rules, left_head, left_head_on, left_none, left_some)
-
--- ANSWER_FOR
+-- HAS_ROOM
 module _ (p b s : Text) (right : is_right (request p b s []) ≡ true) where
   -- the file is as long as the lines of the records in the order of the chart
   whole_long : length (file_of (request p b s []))
@@ -91,12 +62,18 @@ module _ (p b s : Text) (right : is_right (request p b s []) ≡ true) where
         length-append (records_text 1 (charted_in s)) (line_text (footer_fields (length (charted_in s) + other_lines))),
       )
 
+  pub room_head : 14 + length p < 18446744073709551616
+  room_head = omega (arith, right_prefix p b s [] right)
+
+  pub room_head_on : 14 + length p + length b < 18446744073709551616
+  room_head_on = omega (arith, right_prefix p b s [] right, right_batch p b s [] right)
+
   module _ (room most head : ℕ) (m : most ≡ lesser_of room 5000000) (h : head ≡ 14 + length p + length b) where
-    room_none : most < head → false ≡ fits_room p b s room
+    pub room_none : most < head → false ≡ fits_room p b s room
     unfolding fits_room
     room_none k = sym (ap (leb (length (file_of (request p b s [])))) (sym m) ∙ lt-leb (length (file_of (request p b s []))) most (omega (arith, k, h, whole_long)))
 
-    room_some : head ≤ most → (r : Bool) → r ≡ fits_in s (most - head) → r ≡ fits_room p b s room
+    pub room_some : head ≤ most → (r : Bool) → r ≡ fits_in s (most - head) → r ≡ fits_room p b s room
     unfolding fits_room fits_in
     room_some k r e =
         e ∙ leb_moved head (length (records_text 1 (charted_in s) ++ line_text (footer_fields (length (charted_in s) + other_lines)))) most k
@@ -105,70 +82,7 @@ module _ (p b s : Text) (right : is_right (request p b s []) ≡ true) where
         long : head + length (records_text 1 (charted_in s) ++ line_text (footer_fields (length (charted_in s) + other_lines))) ≡ length (file_of (request p b s []))
         long = omega (arith, h, whole_long)
 
-  -- a footer takes some room
-  room_needed : (n : ℕ) → n ≡ 0 → fits_in s n ≡ false
-  unfolding fits_in
-  room_needed n z =
-      lt-leb (length (records_text 1 (charted_in s) ++ line_text (footer_fields (length (charted_in s) + other_lines)))) n
-      (omega (
-        arith,
-        z,
-        length-append (records_text 1 (charted_in s)) (line_text (footer_fields (length (charted_in s) + other_lines))),
-        line_length (footer_fields (length (charted_in s) + other_lines)),
-      ))
-
-  room_is : (room : ℕ) → fits_room p b s room ≡ fits_in s (room_left p b room)
-  unfolding room_left
-  room_is room = go (ltb (lesser_of room 5000000) (14 + length p + length b)) refl
-    where
-      go : (t : Bool) → ltb (lesser_of room 5000000) (14 + length p + length b) ≡ t
-          → fits_room p b s room ≡ fits_in s (lesser_of room 5000000 - (14 + length p + length b))
-      go true e =
-          let k : lesser_of room 5000000 < 14 + length p + length b = ltb-true (lesser_of room 5000000) (14 + length p + length b) e in
-          sym (room_none room (lesser_of room 5000000) (14 + length p + length b) refl refl k)
-          ∙ sym (room_needed (lesser_of room 5000000 - (14 + length p + length b)) (omega (arith, k)))
-      go false e =
-          sym (
-          room_some room (lesser_of room 5000000) (14 + length p + length b) refl refl
-          (ltb-false (lesser_of room 5000000) (14 + length p + length b) e) (fits_in s (lesser_of room 5000000 - (14 + length p + length b))) refl
-          )
-
-module _ (p b s : Text) (room : ℕ) where
-  pub answer_no_prefix : (u : Bool) → u ≡ is_prefix p → u ≡ false → 8 ≡ answer_for p b s room
-  unfolding answer_for is_right
-  answer_no_prefix u e z = rw (← e, z)
-
-  pub answer_no_batch : (u v : Bool) → u ≡ is_prefix p → u ≡ true → v ≡ is_batch b → v ≡ false → 8 ≡ answer_for p b s room
-  unfolding answer_for is_right
-  answer_no_batch u v e z f w = rw (← e, z, ← f, w)
-
-  right_by_chart : (u v : Bool) → u ≡ is_prefix p → u ≡ true → v ≡ is_batch b → v ≡ true → is_right (request p b s []) ≡ is_chart s
-  unfolding is_right
-  right_by_chart u v e z f w = rw (← e, z, ← f, w)
-
-  pub answer_is : (u v : Bool) (r left : ℕ) → u ≡ is_prefix p → u ≡ true → v ≡ is_batch b → v ≡ true → left ≡ room_left p b room → r ≡ measured s left
-      → r ≡ answer_for p b s room
-  unfolding answer_for measured
-  answer_is u v r left e z f w g h = h ∙ go (is_chart s) refl
-    where
-      right : is_right (request p b s []) ≡ is_chart s
-      right = right_by_chart u v e z f w
-
-      go : (t : Bool) → is_chart s ≡ t
-          → ◌≡◌ {A = ℕ} (cond (is_chart s) (cond (fits_in s left) 0 9) 8) (cond (is_right (request p b s [])) (cond (fits_room p b s room) 0 9) 8)
-      go true q = rw (right, q, room_is p b s (right ∙ q) room, g)
-      go false q = rw (right, q)
-
-pub answer_prefix : (p : Text) (u : Bool) → u ≡ is_prefix p → u ≡ true → is_prefix p ≡ true
-answer_prefix p u e z = sym e ∙ z
-
-pub answer_batch : (b : Text) (v : Bool) → v ≡ is_batch b → v ≡ true → is_batch b ≡ true
-answer_batch b v e z = sym e ∙ z
-
-pub answer_notes : (s : Text) (ns next : List ℕ) → all (is_note s) ns ≡ true → next ≡ notes_of s ns → all (is_note s) next ≡ true
-answer_notes s ns next h e = ap (all (is_note s)) e ∙ notes_true s ns h
-
-pub ruleset for_answer_for = (rules, answer_prefix, answer_batch, answer_no_prefix, answer_no_batch, answer_is, answer_notes)
+pub ruleset for_has_room = (rules, room_head, room_head_on, room_none, room_some)
 
 -- PUT_FILE
 module _ (p b s a : Text) (f : Fitting p b s a) where
@@ -250,14 +164,23 @@ pub ruleset for_put_file = (rules, file_head_room, file_count, file_foot_room, f
 
 pub ruleset for_file_patients = (rules, file_patients, file_can)
 
+-- IS_RIGHT
+module _ (p b s : Text) where
+  pub right_none : (u : Bool) → u ≡ is_prefix p → u ≡ false → false ≡ is_right (request p b s [])
+  unfolding is_right
+  right_none u e z = rw (← e, z)
+
+  pub right_no_batch : (u v : Bool) → u ≡ is_prefix p → u ≡ true → v ≡ is_batch b → v ≡ false → false ≡ is_right (request p b s [])
+  unfolding is_right
+  right_no_batch u v e z f w = rw (← e, z, ← f, w)
+
+  pub right_chart : (u v r : Bool) → u ≡ is_prefix p → u ≡ true → v ≡ is_batch b → v ≡ true → r ≡ is_chart s → r ≡ is_right (request p b s [])
+  unfolding is_right
+  right_chart u v r e z f w g = rw (← e, z, ← f, w) g
+
+pub ruleset for_is_right = (rules, right_none, right_no_batch, right_chart)
+
 -- WRITE
-
--- zeros are no notes
-pub fresh_notes : (s : Text) (n : ℕ) → all (is_note s) (replicate n 0) ≡ true
-unfolding is_note
-fresh_notes s zero = refl
-fresh_notes s (suc n) = fresh_notes s n
-
 module _ (p b s a : Text) where
   same_file : file_of (request p b s a) ≡ file_of (request p b s [])
   unfolding file_of records_of
@@ -300,35 +223,33 @@ module _ (p b s a : Text) where
       flip true = refl
       flip false = refl
 
-  module _ (r : ℕ) (e : r ≡ answer_for p b s (length a)) where
-    pub write_refused : (r ≡ 0 → ⊥) → Writes (request p b s a) r 0 a
-    unfolding write answer_for
-    write_refused n = go (is_right (request p b s [])) (fits_room p b s (length a)) refl refl
-      where
-        go : (u v : Bool) → is_right (request p b s []) ≡ u → fits_room p b s (length a) ≡ v → Writes (request p b s a) r 0 a
-        go false v f g = let k : r ≡ 8 = e ∙ rw f in rw (same_right, f, k)
-        go true false f g = let k : r ≡ 9 = e ∙ rw (f, g) in rw (same_right, f, too_long, g, k)
-        go true true f g = absurd (n (e ∙ rw (f, g)))
+  module _ (u : Bool) (e : u ≡ is_right (request p b s [])) where
+    pub write_record : u ≡ false → Writes (request p b s a) 8 0 a
+    unfolding write
+    write_record z = rw (same_right, ← e, z)
 
-    module _ (z : r ≡ 0) where
-      pub write_fits : Fitting p b s a
-      unfolding answer_for
-      write_fits = go (is_right (request p b s [])) (fits_room p b s (length a)) refl refl
-        where
-          go : (u v : Bool) → is_right (request p b s []) ≡ u → fits_room p b s (length a) ≡ v → Fitting p b s a
-          go true true f g = record { right = f; fits = g }
-          go false v f g = let k : r ≡ 8 = e ∙ rw f in absurd (omega (arith, k, z))
-          go true false f g = let k : r ≡ 9 = e ∙ rw (f, g) in absurd (omega (arith, k, z))
+    module _ (z : u ≡ true) where
+      pub write_right : is_right (request p b s []) ≡ true
+      write_right = sym e ∙ z
 
-      pub write_small : (l : ℕ) → l ≡ length (file_of (request p b s [])) → l < 4294967296
-      write_small l g = omega (arith, g, fits_most p b s a write_fits)
+      module _ (v : Bool) (f : v ≡ fits_room p b s (length a)) where
+        pub write_room : v ≡ false → Writes (request p b s a) 9 0 a
+        unfolding write
+        write_room w = rw (same_right, ← e, z, too_long, ← f, w)
 
-      pub write_done : (l : ℕ) (c : Text) → l ≡ length (file_of (request p b s [])) → c ≡ over_from 0 (file_of (request p b s [])) a
-          → Writes (request p b s a) 0 l c
-      unfolding write finished
-      write_done l c g h =
-          rw (same_right, write_fits.right, too_long, write_fits.fits, same_file)
-          (ap (λ (n : ℕ). leaves 0 n c) g
-          ∙ ap (leaves 0 (length (file_of (request p b s [])))) (h ∙ over_from_start (file_of (request p b s [])) a (fits_area p b s a write_fits)))
+        module _ (w : v ≡ true) where
+          pub write_fits : Fitting p b s a
+          write_fits = record { right = sym e ∙ z; fits = sym f ∙ w }
 
-pub ruleset for_write = (rules, write_refused, write_fits, write_small, write_done)
+          pub write_small : (l : ℕ) → l ≡ length (file_of (request p b s [])) → l < 4294967296
+          write_small l g = omega (arith, g, fits_most p b s a write_fits)
+
+          pub write_done : (l : ℕ) (c : Text) → l ≡ length (file_of (request p b s [])) → c ≡ over_from 0 (file_of (request p b s [])) a
+              → Writes (request p b s a) 0 l c
+          unfolding write finished
+          write_done l c g h =
+              rw (same_right, ← e, z, too_long, ← f, w, same_file)
+              (ap (λ (n : ℕ). leaves 0 n c) g
+              ∙ ap (leaves 0 (length (file_of (request p b s [])))) (h ∙ over_from_start (file_of (request p b s [])) a (fits_area p b s a write_fits)))
+
+pub ruleset for_write = (rules, write_record, write_right, write_room, write_fits, write_small, write_done)

@@ -1,16 +1,14 @@
 -- Working definitions: what the crate's own functions answer. No public contract rests on this page.
 -- Assumes nothing.
-use Rattle.std.specs.Prelude.{ℕ, zero, suc, ◌+◌, ◌-◌, ◌≤◌, ◌<◌, ◌≡◌, Bool, true, not, cond, ◌&&◌, ◌||◌, List, [], ◌∷◌, ◌++◌, map, eqb, ltb, leb, length, get_or, drop}
+use Rattle.std.specs.Prelude.{ℕ, ◌+◌, ◌-◌, ◌≤◌, ◌<◌, ◌≡◌, Bool, true, not, cond, ◌&&◌, ◌||◌, List, [], ◌∷◌, ◌++◌, eqb, ltb, leb, length, get_or, drop}
 use Rattle.house.specs.Text.{Text, any, all, those, front, after_front, joined, same, adjacent}
 use Rattle.house.specs.Numbers.{lesser_of}
 use Rattle.writing.specs.Writing.{over_from, decimal}
-use Rattle.lines.specs.Lines.{pipe}
 use Rattle.lines.specs.Records.{IH, II, IE, IN, IA}
-use Rattle.lines_words.specs.Words.{event_key, key_at, event_hash, before, in_order}
-use Rattle.lines_words.specs.Inside.{SameEntries}
+use Rattle.lines_words.specs.Words.{event_key, key_at, in_order}
 use Rattle.chart_definitions.specs.Charts.{Charted, widths_of, body_width, charted_in, is_of, cut, well_formed, ordered}
 use Rattle.chart_definitions.specs.Lots.{of_immunization, in_writing_order}
-use Rattle.chart_definitions.specs.Submissions.{piped, line_text, type_text, records_text, version_fields, header_fields, footer_fields, request, file_of, is_right, file_most, RECORD, ROOM}
+use Rattle.chart_definitions.specs.Submissions.{piped, line_text, type_text, records_text, version_fields, header_fields, footer_fields, request, file_of, is_right, file_most}
 use Rattle.chart_records.specs.Reading.{record_end}
 use Rattle.chart_records.specs.Inside.{charted_at}
 use Rattle.chart.specs.declared.Spot.{Spot}
@@ -20,11 +18,6 @@ use Rattle.chart.specs.declared.Spot.{Spot}
 -- the fields of a record, each with its pipe
 unfoldable pub fields_text : ℕ → Text → Text
 fields_text k body = joined piped (cut (widths_of k) body)
-
--- so many pipes
-unfoldable pub pipes : ℕ → Text
-pipes zero = []
-pipes (suc n) = pipe ∷ pipes n
 
 -- its type and its number
 unfoldable pub start_text : ℕ → ℕ → Text
@@ -129,47 +122,6 @@ pub record Ready (s : Text) (at : ℕ) (es : List ℕ) : Type 0 where
   pub among : all (is_among es) (lot_places at (charted_in (drop at s))) ≡ true
   pub short : length s < 4294967296
 
--- ARRANGING LOTS
-
--- lots es came to stand as fs, and what is kept beside them came from ds to stand as gs: they are the same lots, and if each had its own beside it,
--- each has its own still
-pub record Moved (es ds fs gs : List ℕ) : Type 0 where
-  pub entries : SameEntries es fs
-  pub step : (h : ℕ → ℕ) → ds ≡ map h es → gs ≡ map h fs
-
--- lots es came to stand as fs, each with the digest of its event beside it
-pub record Arranged (s : Text) (es fs gs : List ℕ) : Type 0 where
-  pub entries : SameEntries es fs
-  pub digests : gs ≡ map (event_hash s) fs
-
--- the mark of a lot, by whether it is the first of its event
-unfoldable pub mark_of : Bool → ℕ
-mark_of leading = cond leading 1 2
-
--- that of lot f behind lot e, 0 where it does not come behind it
-unfoldable pub mark_behind : Text → ℕ → ℕ → ℕ
-mark_behind s e f = cond (before (event_at s) e f) (mark_of (not (like (event_at s) e f))) 0
-
--- each lot has its mark
-pub record Marked (s : Text) (es ms : List ℕ) : Type 0 where
-  pub long : length ms ≡ length es
-  pub told : (i : ℕ) → i < length es → get_or ms i 0 ≡ mark_of (leads (event_at s) es i)
-
--- by their marks, where the lots of one event end that stand together from an index on
-unfoldable pub run_end : List ℕ → ℕ → ℕ
-run_end ms i = i + 1 + length (front (λ (m : ℕ). not (eqb m 1)) (drop (i + 1) ms))
-
--- lots that passed the test ascend by their events, and each has its mark
-pub record Tested (s : Text) (es ms : List ℕ) (passes : Bool) : Type 0 where
-  pub ascend : passes ≡ true → adjacent (before (event_at s)) es ≡ true
-  pub marked : passes ≡ true → Marked s es ms
-
--- lots es came to stand as fs; if they are right so, that is their order, and each has its mark
-pub record Tried (s : Text) (es fs ms : List ℕ) (right : Bool) : Type 0 where
-  pub entries : SameEntries es fs
-  pub order : right ≡ true → fs ≡ in_order (key_at event_key s) es
-  pub marked : right ≡ true → Marked s fs ms
-
 -- PATIENTS
 
 -- so many II records are in a file at most: the line of one has 26 bytes at least
@@ -214,14 +166,6 @@ foot_text count = line_text (footer_fields count)
 -- the file is no longer than an area of so many bytes, nor than a file may be
 unfoldable pub fits_room : Text → Text → Text → ℕ → Bool
 fits_room prefix batch chart room = leb (length (file_of (request prefix batch chart []))) (lesser_of room file_most)
-
--- so many bytes are left for the records and the footer of a file in an area of so many
-unfoldable pub room_left : Text → Text → ℕ → ℕ
-room_left prefix batch room = lesser_of room file_most - (14 + length prefix + length batch)
-
--- what is answered before a file is written: 0, RECORD or ROOM
-unfoldable pub answer_for : Text → Text → Text → ℕ → ℕ
-answer_for prefix batch chart room = cond (is_right (request prefix batch chart [])) (cond (fits_room prefix batch chart room) 0 ROOM) RECORD
 
 -- prefix, batch number and chart are right, and the file fits
 pub record Fitting (prefix batch chart area : Text) : Type 0 where

@@ -1,11 +1,8 @@
 // The whole file: IV and IH, the patients, and IF.
 ghost use Rattle.std.specs.Prelude.{◌≡◌, true, [], ◌+◌, ◌≤◌, length};
-ghost use Rattle.house.specs.Text.{all};
 ghost use Rattle.writing.specs.Writing.{over_from};
-ghost use Rattle.rules_definitions.specs.Forms.{is_prefix, is_batch};
-ghost use Rattle.chart_definitions.specs.Submissions.{request, file_of};
-ghost use Rattle.chart_records.specs.Reading.{is_note};
-ghost use Rattle.chart.specs.Inside.{head_text, foot_text, room_left, places_most, Fitting};
+ghost use Rattle.chart_definitions.specs.Submissions.{request, file_of, is_right};
+ghost use Rattle.chart.specs.Inside.{head_text, foot_text, fits_room, places_most, Fitting};
 
 use crate::Spot;
 use crate::areas::{put_byte, put_piped, put_piped_number, put_text};
@@ -19,9 +16,6 @@ const HEAD: usize = 14;
 
 // So many II records are in a file at most: the line of one has 26 bytes at least.
 const PLACES_MOST: usize = 192307;
-
-// So many hints are kept of where immunizations stand in the order of their events.
-const HINTS: usize = 142857;
 
 // The records IV and IH.
 fn put_head(out: &mut [u8], prefix: &[u8], batch: &[u8]) -> usize
@@ -52,15 +46,11 @@ fn put_file(
     prefix: &[u8],
     batch: &[u8],
     chart: &[u8],
-    notes: &[u32],
     places: &mut [u32],
-    marks: &mut [u64],
-    hints: &mut [u32],
+    room: &mut [u64],
 ) -> usize
-    requires notes_value { all (is_note chart.now) notes.now ≡ true }
     requires fitting { Fitting prefix.now batch.now chart.now out.old }
     requires places_len { length places.old ≡ places_most }
-    requires marks_len { length marks.old ≡ places_most }
     ensures out_after { out.new
         ≡ over_from 0 (file_of (request prefix.now batch.now chart.now [])) out.old }
     ensures value { result ≡ length (file_of (request prefix.now batch.now chart.now [])) }
@@ -69,58 +59,38 @@ fn put_file(
     let end = put_patients(
         out,
         chart,
-        notes,
         Spot {
             at: 0,
             number: 1,
             pos,
         },
         places,
-        marks,
-        hints,
+        room,
     );
     put_foot(out, end.pos, end.number + 2)
 }
 
 // The file, with room for the positions of as many immunizations as a file can have.
-pub(crate) fn put_in_room(
-    out: &mut [u8],
-    prefix: &[u8],
-    batch: &[u8],
-    chart: &[u8],
-    notes: &[u32],
-) -> usize
-    requires notes_value { all (is_note chart.now) notes.now ≡ true }
-    requires fitting { Fitting prefix.now batch.now chart.now out.old }
+pub(crate) fn put_in_room(out: &mut [u8], prefix: &[u8], batch: &[u8], chart: &[u8]) -> usize
+    requires { Fitting prefix.now batch.now chart.now out.old }
     ensures out_after { out.new
         ≡ over_from 0 (file_of (request prefix.now batch.now chart.now [])) out.old }
     ensures value { result ≡ length (file_of (request prefix.now batch.now chart.now [])) }
 {
     let mut places = [0u32; PLACES_MOST];
-    let mut marks = [0u64; PLACES_MOST];
-    let mut hints = [0u32; HINTS];
-    put_file(
-        out,
-        prefix,
-        batch,
-        chart,
-        notes,
-        &mut places,
-        &mut marks,
-        &mut hints,
-    )
+    let mut room = [0u64; PLACES_MOST];
+    put_file(out, prefix, batch, chart, &mut places, &mut room)
 }
 
-// How many bytes are left for the records and the footer of a file in an area of so many.
-pub(crate) fn room_left(prefix: &[u8], batch: &[u8], room: usize) -> usize
-    requires prefix_value { is_prefix prefix.now ≡ true }
-    requires batch_value { is_batch batch.now ≡ true }
-    ensures { result ≡ room_left prefix.now batch.now room }
+// Whether the file is no longer than an area of so many bytes, nor than a file may be.
+pub(crate) fn has_room(prefix: &[u8], batch: &[u8], chart: &[u8], room: usize) -> bool
+    requires { is_right (request prefix.now batch.now chart.now []) ≡ true }
+    ensures { result ≡ fits_room prefix.now batch.now chart.now room }
 {
     let most = house::lesser(room, FILE_MOST);
     let head = HEAD + prefix.len() + batch.len();
     if most < head {
-        return 0;
+        return false;
     }
-    most - head
+    chart_records::fits(chart, most - head)
 }

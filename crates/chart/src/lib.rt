@@ -10,11 +10,8 @@ mod patients;
 mod records;
 mod runs;
 
-ghost use Rattle.std.specs.Prelude.{◌≡◌, true};
-ghost use Rattle.house.specs.Text.{all};
-ghost use Rattle.chart_definitions.specs.Submissions.{request, Writes};
-ghost use Rattle.chart_records.specs.Reading.{is_note};
-ghost use Rattle.chart.specs.Inside.{answer_for};
+ghost use Rattle.std.specs.Prelude.{◌≡◌, []};
+ghost use Rattle.chart_definitions.specs.Submissions.{request, is_right, Writes};
 
 use rules_forms::{is_batch, is_prefix};
 
@@ -35,23 +32,18 @@ pub struct Answer {
 
 const RECORD: u32 = 8;
 
-// So many notes of immunizations without a comment are kept. Two of them stand 1,727 bytes apart at least, and of 5,000,000 bytes both their lines
-// and those of their IE take 35 at least.
-const NOTES: usize = 142857;
+const ROOM: u32 = 9;
 
-// What is answered before a file is written: 0, RECORD or ROOM. Notes immunizations without a comment.
-fn answer_for(prefix: &[u8], batch: &[u8], chart: &[u8], room: usize, notes: &mut [u32]) -> u32
-    requires { all (is_note chart.now) notes.old ≡ true }
-    ensures value { result ≡ answer_for prefix.now batch.now chart.now room }
-    ensures notes_after { all (is_note chart.now) notes.new ≡ true }
+// Whether prefix, batch number and chart are of their forms.
+fn is_right(prefix: &[u8], batch: &[u8], chart: &[u8]) -> bool
+    ensures { result ≡ is_right (request prefix.now batch.now chart.now []) }
 {
     if is_prefix(prefix) {
         if is_batch(batch) {
-            let left = files::room_left(prefix, batch, room);
-            return chart_records::measure(chart, left, notes);
+            return chart_records::is_chart(chart);
         }
     }
-    RECORD
+    false
 }
 
 // Writes a submission from a chart into an area.
@@ -59,14 +51,21 @@ pub fn write(prefix: &[u8], batch: &[u8], chart: &[u8], out: &mut [u8]) -> Answe
     ensures { Writes (request prefix.now batch.now chart.now out.old)
         result.answer result.length out.new }
 {
-    let mut notes = [0u32; NOTES];
-    let answer = answer_for(prefix, batch, chart, out.len(), &mut notes);
-    if answer == 0 {
-        let length = files::put_in_room(out, prefix, batch, chart, &notes);
+    if is_right(prefix, batch, chart) {
+        if files::has_room(prefix, batch, chart, out.len()) {
+            let length = files::put_in_room(out, prefix, batch, chart);
+            return Answer {
+                answer: 0,
+                length: length as u32,
+            };
+        }
         return Answer {
-            answer: 0,
-            length: length as u32,
+            answer: ROOM,
+            length: 0,
         };
     }
-    Answer { answer, length: 0 }
+    Answer {
+        answer: RECORD,
+        length: 0,
+    }
 }

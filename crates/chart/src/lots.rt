@@ -1,17 +1,17 @@
 // The immunizations of a patient, lots of one event together.
-ghost use Rattle.std.specs.Prelude.{◌≡◌, true, [], ◌∷◌, ◌≤◌, ◌<◌, length, get_or, drop};
-ghost use Rattle.house.specs.Text.{all, after_front, joined};
+ghost use Rattle.std.specs.Prelude.{◌≡◌, true, [], ◌∷◌, ◌-◌, ◌≤◌, ◌<◌, length, get_or, take, drop};
+ghost use Rattle.house.specs.Text.{all, front, after_front, joined};
 ghost use Rattle.house.specs.Over.{over};
 ghost use Rattle.chart_definitions.specs.Charts.{charted_in, well_formed};
 ghost use Rattle.chart_definitions.specs.Lots.{of_immunization};
-ghost use Rattle.chart_records.specs.Reading.{is_note};
-ghost use Rattle.chart.specs.Inside.{shot_at, run_of, run_end, lot_places, is_sound, is_among, lots_of, lots_in, Sorted, Ready, Marked, spot_at, Can, Puts, PutsTo};
+ghost use Rattle.chart.specs.Inside.{shot_at, event_at, like, leads, run_of, lot_places, is_sound, is_among, lots_of, lots_in, Sorted, Ready, spot_at, Can, Puts, PutsTo};
 
 use crate::Spot;
-use crate::hints::{FIRST, index_of, order_lots};
+use crate::hints::{index_of, order_lots};
 use crate::runs::put_immunization;
 use chart_records::{kind_at, record_end};
 use lines::{IE, II};
+use lines_words::{EVENT, one_key};
 
 // The positions of the II records from a position on, as long as immunizations stand there; how many there are.
 pub(crate) fn gather(chart: &[u8], at: usize, places: &mut [u32]) -> usize
@@ -41,17 +41,22 @@ pub(crate) fn gather(chart: &[u8], at: usize, places: &mut [u32]) -> usize
     n
 }
 
+// Whether the lot at an index, among lots in the order of their events, is the first of its event.
+fn is_first(chart: &[u8], lots: &[u32], i: usize) -> bool
+    requires { i < length lots.now }
+    ensures { result ≡ leads (event_at chart.now) lots.now i }
+{
+    if i == 0 {
+        return true;
+    }
+    if one_key(chart, EVENT, lots[i - 1], lots[i]) {
+        return false;
+    }
+    true
+}
+
 // The lot at an index.
-fn put_lot(
-    out: &mut [u8],
-    chart: &[u8],
-    notes: &[u32],
-    number: usize,
-    pos: usize,
-    lots: &[u32],
-    j: usize,
-) -> Spot
-    requires notes_value { all (is_note chart.now) notes.now ≡ true }
+fn put_lot(out: &mut [u8], chart: &[u8], number: usize, pos: usize, lots: &[u32], j: usize) -> Spot
     requires j_in_bounds { j < length lots.now }
     requires lots_value { all (is_sound chart.now) lots.now ≡ true }
     requires can { Can (shot_at chart.now (get_or lots.now j 0)) (spot_at (get_or lots.now j 0) number pos) out.old }
@@ -59,12 +64,11 @@ fn put_lot(
         out.old out.new }
 {
     let at = house::wide(lots[j]);
-    put_immunization(out, chart, notes, Spot { at, number, pos })
+    put_immunization(out, chart, Spot { at, number, pos })
 }
 
 // Lots, one after the other.
-fn put_each(out: &mut [u8], chart: &[u8], notes: &[u32], spot: Spot, lots: &[u32]) -> Spot
-    requires notes_value { all (is_note chart.now) notes.now ≡ true }
+fn put_each(out: &mut [u8], chart: &[u8], spot: Spot, lots: &[u32]) -> Spot
     requires lots_value { all (is_sound chart.now) lots.now ≡ true }
     requires can { Can (joined (shot_at chart.now) lots.now) spot out.old }
     ensures { Puts (joined (shot_at chart.now) lots.now) spot result out.old out.new }
@@ -74,7 +78,7 @@ fn put_each(out: &mut [u8], chart: &[u8], notes: &[u32], spot: Spot, lots: &[u32
     let mut pos = spot.pos;
     let mut j = 0;
     while j < lots.len() {
-        let next = put_lot(out, chart, notes, number, pos, lots, j);
+        let next = put_lot(out, chart, number, pos, lots, j);
         number = next.number;
         pos = next.pos;
         j += 1;
@@ -82,57 +86,40 @@ fn put_each(out: &mut [u8], chart: &[u8], notes: &[u32], spot: Spot, lots: &[u32
     Spot { at, number, pos }
 }
 
-// Where the lots of one event end that stand together from an index on, by their marks.
-fn run_end(marks: &[u64], i: usize) -> usize
-    requires { i < length marks.now }
+// Where the lots of one event end that stand together from an index on.
+fn run_end(chart: &[u8], lots: &[u32], i: usize) -> usize
+    requires { i < length lots.now }
     ensures lower_bound { i ≤ result }
-    ensures upper_bound { result ≤ length marks.now }
-    ensures value { result ≡ run_end marks.now i }
+    ensures upper_bound { result ≤ length lots.now }
+    ensures lots_value { take (result - i) (drop i lots.now)
+        ≡ front (like (event_at chart.now) (get_or lots.now i 0)) (drop i lots.now) }
 {
-    let mut j = i + 1;
-    while j < marks.len() {
-        if marks[j] == FIRST {
+    let lot = lots[i];
+    let mut j = i;
+    while j < lots.len() {
+        if one_key(chart, EVENT, lot, lots[j]) {
+            j += 1;
+        } else {
             return j;
         }
-        j += 1;
     }
     j
 }
 
 // The lots of one event, which stand together from an index on.
-fn put_run(
-    out: &mut [u8],
-    chart: &[u8],
-    notes: &[u32],
-    spot: Spot,
-    lots: &[u32],
-    marks: &[u64],
-    i: usize,
-) -> Spot
-    requires notes_value { all (is_note chart.now) notes.now ≡ true }
+fn put_run(out: &mut [u8], chart: &[u8], spot: Spot, lots: &[u32], i: usize) -> Spot
     requires i_in_bounds { i < length lots.now }
     requires lots_value { all (is_sound chart.now) lots.now ≡ true }
-    requires marked { Marked chart.now lots.now marks.now }
     requires can { Can (run_of chart.now lots.now i (get_or lots.now i 0)) spot out.old }
     ensures { Puts (run_of chart.now lots.now i (get_or lots.now i 0)) spot result out.old out.new }
 {
-    let end = run_end(marks, i);
-    put_each(out, chart, notes, spot, &lots[i..end])
+    let end = run_end(chart, lots, i);
+    put_each(out, chart, spot, &lots[i..end])
 }
 
 // The lots of the event of the II at a position, if it is the first of them.
-fn put_event(
-    out: &mut [u8],
-    chart: &[u8],
-    notes: &[u32],
-    spot: Spot,
-    lots: &[u32],
-    marks: &[u64],
-    hints: &[u32],
-) -> Spot
-    requires notes_value { all (is_note chart.now) notes.now ≡ true }
+fn put_event(out: &mut [u8], chart: &[u8], spot: Spot, lots: &[u32], hints: &[u64]) -> Spot
     requires sorted { Sorted chart.now lots.now }
-    requires marked { Marked chart.now lots.now marks.now }
     requires at_value { is_among lots.now spot.at ≡ true }
     requires at_bound { spot.at < 4294967296 }
     requires can { Can (lots_of chart.now lots.now (spot.at ∷ [])) spot out.old }
@@ -140,25 +127,15 @@ fn put_event(
 {
     let lot = spot.at as u32;
     let i = index_of(chart, lots, hints, lot);
-    if marks[i] == FIRST {
-        return put_run(out, chart, notes, spot, lots, marks, i);
+    if is_first(chart, lots, i) {
+        return put_run(out, chart, spot, lots, i);
     }
     spot
 }
 
 // The immunizations from a position on, by their lots in the order of their events.
-fn put_lots(
-    out: &mut [u8],
-    chart: &[u8],
-    notes: &[u32],
-    spot: Spot,
-    lots: &[u32],
-    marks: &[u64],
-    hints: &[u32],
-) -> Spot
-    requires notes_value { all (is_note chart.now) notes.now ≡ true }
+fn put_lots(out: &mut [u8], chart: &[u8], spot: Spot, lots: &[u32], hints: &[u64]) -> Spot
     requires ready { Ready chart.now spot.at lots.now }
-    requires marked { Marked chart.now lots.now marks.now }
     requires can { Can (lots_of chart.now lots.now (lot_places spot.at (charted_in (drop spot.at chart.now)))) spot out.old }
     ensures { PutsTo chart.now
         (lots_of chart.now lots.now (lot_places spot.at (charted_in (drop spot.at chart.now))))
@@ -171,15 +148,7 @@ fn put_lots(
         let kind = kind_at(chart, at);
         let end = record_end(chart, at);
         if kind == II {
-            let next = put_event(
-                out,
-                chart,
-                notes,
-                Spot { at, number, pos },
-                lots,
-                marks,
-                hints,
-            );
+            let next = put_event(out, chart, Spot { at, number, pos }, lots, hints);
             number = next.number;
             pos = next.pos;
             at = end;
@@ -198,21 +167,17 @@ fn put_lots(
 pub(crate) fn put_immunizations(
     out: &mut [u8],
     chart: &[u8],
-    notes: &[u32],
     spot: Spot,
     lots: &mut [u32],
-    marks: &mut [u64],
-    hints: &mut [u32],
+    room: &mut [u64],
 ) -> Spot
-    requires notes_value { all (is_note chart.now) notes.now ≡ true }
     requires chart_value { all well_formed (charted_in (drop spot.at chart.now)) ≡ true }
     requires chart_len_bound { length chart.now < 4294967296 }
     requires lots_value { lots.old ≡ lot_places spot.at (charted_in (drop spot.at chart.now)) }
-    requires marks_len { length marks.old ≡ length lots.old }
     requires can { Can (lots_in chart.now spot.at) spot out.old }
     ensures { PutsTo chart.now (lots_in chart.now spot.at)
         (after_front of_immunization (charted_in (drop spot.at chart.now))) spot result out.old out.new }
 {
-    order_lots(chart, lots, marks, hints);
-    put_lots(out, chart, notes, spot, lots, marks, hints)
+    order_lots(chart, lots, room);
+    put_lots(out, chart, spot, lots, room)
 }

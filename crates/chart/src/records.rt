@@ -1,15 +1,14 @@
 // The line of a record: its type, its number and its fields, each with its pipe, and an LF.
 ghost use Rattle.std.specs.Prelude.{◌≡◌, true, [], ◌∷◌, ◌+◌, ◌≤◌, ◌<◌, length};
-ghost use Rattle.house.specs.Text.{all};
 ghost use Rattle.writing.specs.Writing.{over_from};
-ghost use Rattle.chart_definitions.specs.Charts.{well_formed};
+ghost use Rattle.chart_definitions.specs.Charts.{body_width, well_formed};
 ghost use Rattle.chart_definitions.specs.Submissions.{piped, type_text, record_text};
-ghost use Rattle.chart_records.specs.Reading.{charted_at, is_note};
-ghost use Rattle.chart.specs.Inside.{pipes, fields_text, start_text};
+ghost use Rattle.chart_records.specs.Inside.{charted_at};
+ghost use Rattle.chart.specs.Inside.{fields_text, start_text};
 
 use crate::areas::{put_byte, put_piped, put_piped_number};
-use blanks::{trim, trim_end};
-use chart_records::{kind_at, noted_end, width_at, width_count};
+use blanks::trim;
+use chart_records::{kind_at, record_end, width_at, width_count};
 use lines::{IA, IE, II, IN};
 
 // The second letter of a record's type.
@@ -49,62 +48,36 @@ fn put_start(out: &mut [u8], at: usize, kind: u8, n: usize) -> usize
     put_piped_number(out, end, n)
 }
 
-// So many pipes.
-fn put_pipes(out: &mut [u8], at: usize, n: usize) -> usize
-    requires { at + n ≤ length out.old }
-    ensures out_after { out.new ≡ over_from at (pipes n) out.old }
-    ensures value { result ≡ at + n }
+// The fields of a record.
+fn put_fields(out: &mut [u8], at: usize, body: &[u8], kind: u8) -> usize
+    requires body_len { length body.now ≡ body_width kind }
+    requires body_in_bounds { at + length (fields_text kind body.now) ≤ length out.old }
+    ensures out_after { out.new ≡ over_from at (fields_text kind body.now) out.old }
+    ensures value { result ≡ at + length (fields_text kind body.now) }
 {
-    let mut pos = at;
-    let mut left = n;
-    while 0 < left {
-        pos = put_byte(out, pos, b'|');
-        left -= 1;
-    }
-    pos
-}
-
-// The fields of a record, as far as a text goes; those behind what is given are empty, and are not looked at.
-fn put_fields(out: &mut [u8], at: usize, text: &[u8], kind: u8) -> usize
-    requires { at + length (fields_text kind text.now) ≤ length out.old }
-    ensures out_after { out.new ≡ over_from at (fields_text kind text.now) out.old }
-    ensures value { result ≡ at + length (fields_text kind text.now) }
-{
-    let given = trim_end(text);
     let n = width_count(kind);
     let mut i = 0;
     let mut from = 0;
     let mut pos = at;
     while i < n {
-        if given.len() <= from {
-            return put_pipes(out, pos, n - i);
-        }
-        let end = from + house::lesser(width_at(kind, i), given.len() - from);
-        pos = put_piped(out, pos, trim(&given[from..end]));
+        let end = from + width_at(kind, i);
+        pos = put_piped(out, pos, trim(&body[from..end]));
         from = end;
         i += 1;
     }
     pos
 }
 
-// The line of the record at a position of the chart, as number n; the notes say where an immunization has no comment.
-pub(crate) fn put_record(
-    out: &mut [u8],
-    pos: usize,
-    n: usize,
-    chart: &[u8],
-    notes: &[u32],
-    at: usize,
-) -> usize
+// The line of the record at a position of the chart, as number n.
+pub(crate) fn put_record(out: &mut [u8], pos: usize, n: usize, chart: &[u8], at: usize) -> usize
     requires at_in_bounds { at < length chart.now }
     requires at_value { well_formed (charted_at chart.now at) ≡ true }
-    requires notes_value { all (is_note chart.now) notes.now ≡ true }
     requires at_in_bounds_2 { pos + length (record_text n (charted_at chart.now at)) ≤ length out.old }
     ensures out_after { out.new ≡ over_from pos (record_text n (charted_at chart.now at)) out.old }
     ensures value { result ≡ pos + length (record_text n (charted_at chart.now at)) }
 {
     let kind = kind_at(chart, at);
-    let end = noted_end(chart, notes, at);
+    let end = record_end(chart, at);
     let from = put_start(out, pos, kind, n);
     let last = put_fields(out, from, &chart[at + 1..end], kind);
     put_byte(out, last, b'\n')

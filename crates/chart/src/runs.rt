@@ -2,7 +2,8 @@
 ghost use Rattle.std.specs.Prelude.{◌≡◌, true, [], ◌∷◌, drop};
 ghost use Rattle.house.specs.Text.{all, front, after_front};
 ghost use Rattle.chart_definitions.specs.Charts.{charted_in, well_formed};
-ghost use Rattle.chart_records.specs.Reading.{charted_at, record_end, is_note};
+ghost use Rattle.chart_records.specs.Reading.{record_end};
+ghost use Rattle.chart_records.specs.Inside.{charted_at};
 ghost use Rattle.chart.specs.Inside.{of_kinds, shot_at, is_sound, Can, Puts, PutsTo};
 
 use crate::Spot;
@@ -11,8 +12,7 @@ use chart_records::{kind_at, record_end};
 use lines::IE;
 
 // The record at a position.
-pub(crate) fn put_next(out: &mut [u8], chart: &[u8], notes: &[u32], spot: Spot) -> Spot
-    requires notes_value { all (is_note chart.now) notes.now ≡ true }
+pub(crate) fn put_next(out: &mut [u8], chart: &[u8], spot: Spot) -> Spot
     requires at_value { is_sound chart.now spot.at ≡ true }
     requires can { Can (charted_at chart.now spot.at ∷ []) spot out.old }
     ensures puts { Puts (charted_at chart.now spot.at ∷ []) spot result out.old out.new }
@@ -20,7 +20,7 @@ pub(crate) fn put_next(out: &mut [u8], chart: &[u8], notes: &[u32], spot: Spot) 
 {
     let at = spot.at;
     let number = spot.number;
-    let pos = put_record(out, spot.pos, number, chart, notes, at);
+    let pos = put_record(out, spot.pos, number, chart, at);
     Spot {
         at: record_end(chart, at),
         number: number + 1,
@@ -40,15 +40,7 @@ fn is_of(chart: &[u8], at: usize, a: u8, b: u8) -> bool
 }
 
 // The records from a position on, as long as they are of two kinds.
-pub(crate) fn put_front(
-    out: &mut [u8],
-    chart: &[u8],
-    notes: &[u32],
-    spot: Spot,
-    a: u8,
-    b: u8,
-) -> Spot
-    requires notes_value { all (is_note chart.now) notes.now ≡ true }
+pub(crate) fn put_front(out: &mut [u8], chart: &[u8], spot: Spot, a: u8, b: u8) -> Spot
     requires chart_value { all well_formed (charted_in (drop spot.at chart.now)) ≡ true }
     requires can { Can (front (of_kinds a b) (charted_in (drop spot.at chart.now))) spot out.old }
     ensures { PutsTo chart.now (front (of_kinds a b) (charted_in (drop spot.at chart.now)))
@@ -59,7 +51,7 @@ pub(crate) fn put_front(
     let mut pos = spot.pos;
     while at < chart.len() {
         if is_of(chart, at, a, b) {
-            let next = put_next(out, chart, notes, Spot { at, number, pos });
+            let next = put_next(out, chart, Spot { at, number, pos });
             at = next.at;
             number = next.number;
             pos = next.pos;
@@ -71,12 +63,11 @@ pub(crate) fn put_front(
 }
 
 // An immunization: the II at a position, and its IE.
-pub(crate) fn put_immunization(out: &mut [u8], chart: &[u8], notes: &[u32], spot: Spot) -> Spot
-    requires notes_value { all (is_note chart.now) notes.now ≡ true }
+pub(crate) fn put_immunization(out: &mut [u8], chart: &[u8], spot: Spot) -> Spot
     requires at_value { is_sound chart.now spot.at ≡ true }
     requires can { Can (shot_at chart.now spot.at) spot out.old }
     ensures { Puts (shot_at chart.now spot.at) spot result out.old out.new }
 {
-    let behind = put_next(out, chart, notes, spot);
-    put_front(out, chart, notes, behind, IE, IE)
+    let behind = put_next(out, chart, spot);
+    put_front(out, chart, behind, IE, IE)
 }

@@ -1,4 +1,5 @@
 use Rattle.chart.proofs.EventNeeds.{for_lots_again}
+use Rattle.chart.proofs.EventNeeds.{for_lots_event}
 use Rattle.chart.proofs.EventNeeds.{for_put_lots}
 use Rattle.chart.proofs.lots.put_lots.Goals as goal
 

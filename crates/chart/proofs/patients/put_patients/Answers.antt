@@ -17,7 +17,7 @@ pub loop-at-smaller : goal.loop-at-smaller
 loop-at-smaller c = search for_put_patients
 
 pub loop-at-preserved : goal.loop-at-preserved
-loop-at-preserved c = (search rules, search rules, search rules, search for_patients_again)
+loop-at-preserved c = search for_patients_again
 
 pub returns : goal.returns
-returns c = passing_end _ _ _ _ _ _ _ _ _ c.loop-at.invariant.3 (search rules)
+returns c = passing_end _ _ _ _ _ _ _ _ _ c.loop-at.invariant.1 (search rules)

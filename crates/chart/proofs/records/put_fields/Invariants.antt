@@ -6,7 +6,7 @@ use Rattle.chart.proofs.RecordNeeds.{Fields}
 use Rattle.chart.proofs.records.put_fields.Given as goal
 
 abbrev pub invariant-loop-i : goal.invariant-loop-i
-invariant-loop-i l = (l.i ≤ l.n) × ((l.n ≡ length (widths_of l.kind)) × Fields l.kind l.at l.text l.given l.initial.out l.i l.from l.pos l.out)
+invariant-loop-i l = (l.i ≤ l.n) × ((l.n ≡ length (widths_of l.kind)) × Fields l.kind l.at l.body l.initial.out l.i l.from l.pos l.out)
 
 abbrev pub decreases-loop-i : goal.decreases-loop-i
 decreases-loop-i l = l.n - l.i

@@ -16,8 +16,12 @@ slice_bounds-put_fields-start c = search for-put-record
 pub slice_bounds-put_fields-end : goal.slice_bounds-put_fields-end
 slice_bounds-put_fields-end c = search for-put-record
 
-pub put_fields-last-requires : goal.put_fields-last-requires
-put_fields-last-requires c = search for-put-record
+pub put_fields-last-requires-clause-body_len : goal.put_fields-last-requires-clause-body_len
+put_fields-last-requires-clause-body_len c = search for-put-record
+
+pub put_fields-last-requires-clause-body_in_bounds :
+    goal.put_fields-last-requires-clause-body_in_bounds
+put_fields-last-requires-clause-body_in_bounds c = search for-put-record
 
 pub put_byte-requires : goal.put_byte-requires
 put_byte-requires c = search for-put-record
