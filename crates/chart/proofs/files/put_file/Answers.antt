@@ -1,5 +1,4 @@
-use Rattle.chart.proofs.WriteNeeds.{for_file_patients}
-use Rattle.chart.proofs.WriteNeeds.{for_put_file}
+use Rattle.chart.proofs.WriteNeeds.{for_file_patients, for_put_file}
 use Rattle.chart.proofs.files.put_file.Goals as goal
 
 pub put_head-pos-requires : goal.put_head-pos-requires

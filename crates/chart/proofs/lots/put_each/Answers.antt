@@ -1,5 +1,4 @@
-use Rattle.chart.proofs.LotNeeds.{for_each_again}
-use Rattle.chart.proofs.LotNeeds.{for_put_each}
+use Rattle.chart.proofs.LotNeeds.{for_each_again, for_put_each}
 use Rattle.chart.proofs.lots.put_each.Goals as goal
 
 pub put_lot-next-requires-clause-can : goal.put_lot-next-requires-clause-can

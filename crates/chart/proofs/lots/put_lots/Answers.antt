@@ -1,5 +1,4 @@
-use Rattle.chart.proofs.EventNeeds.{for_lots_again}
-use Rattle.chart.proofs.EventNeeds.{for_put_lots}
+use Rattle.chart.proofs.EventNeeds.{for_lots_again, for_put_lots}
 use Rattle.chart.proofs.lots.put_lots.Goals as goal
 
 pub put_event-next-requires-clause-at_value : goal.put_event-next-requires-clause-at_value

@@ -1,6 +1,4 @@
-use Rattle.chart.proofs.PatientNeeds.{for_put_behind}
-use Rattle.chart.proofs.PatientNeeds.{for_behind_others}
-use Rattle.chart.proofs.PatientNeeds.{for_behind_lots}
+use Rattle.chart.proofs.PatientNeeds.{for_put_behind, for_behind_others, for_behind_lots}
 use Rattle.chart.proofs.patients.put_behind.Goals as goal
 
 pub put_gathered-next-requires-clause-can : goal.put_gathered-next-requires-clause-can

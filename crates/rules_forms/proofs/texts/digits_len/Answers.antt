@@ -1,5 +1,4 @@
-use Rattle.rules_forms.proofs.DosageNeeds.{for_digits_on}
-use Rattle.rules_forms.proofs.DosageNeeds.{for_digits_len}
+use Rattle.rules_forms.proofs.DosageNeeds.{for_digits_on, for_digits_len}
 use Rattle.rules_forms.proofs.texts.digits_len.Goals as goal
 
 pub loop-i-preserved : goal.loop-i-preserved
