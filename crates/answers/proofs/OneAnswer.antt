@@ -2,8 +2,7 @@
 -- Assumes nothing.
 use mathlib.Core.Path.{◌≡◌, sym, ap, ◌∙◌}
 use Rattle.house.specs.Text.{Text}
-use Rattle.answers.specs.declared.Answer.{Answer}
-use Rattle.answers.specs.Answers.{Lent, Outcome, left, Gives}
+use Rattle.answers.specs.Answers.{Answer, Lent, Outcome, left, Gives}
 
 check_one : (x : Lent) (a b : Answer) (l m r s : Text) → Gives x a l r → Gives x b m s → (a ≡ b) × (l ≡ m) × (r ≡ s)
 check_one x a b l m r s e f =

@@ -20,9 +20,8 @@ use Rattle.house.specs.Over.{over}
 use Rattle.house.proofs.OverLaws.{over_taken, length_over}
 use Rattle.rules.proofs.CountLaws.{part_few}
 use Rattle.answers.specs.declared.settle.Counts.{Counts}
-use Rattle.answers.specs.declared.settle.Settled.{Settled}
-use Rattle.answers.specs.declared.settle.Settled.TheVariants.{Done, NoRoom}
 use Rattle.answers.specs.Settled.{counts_of, has_room, settled_of, settled_ledger, settled_index}
+use Rattle.std.proofs.Common.{Option, Some, None}
 
 -- update_by
 module _ (f : Text) (ix ix' : List ℕ) (a : ℕ) (ex : ix' ≡ over (part_of f 65 ix) ix) (ea : a ≡ length (part_of f 65 ix)) where
@@ -115,7 +114,7 @@ pub ruleset for_count_types = (rules, counts_all, counts_are, counts_few)
 
 -- room_for
 module _ (f l : Text) (live : ℕ) (ix : List ℕ) where
-  pub many_none : 96154 < length ix → NoRoom ≡ settled_of f l live ix
+  pub many_none : 96154 < length ix → None ≡ settled_of f l live ix
   unfolding settled_of has_room
   many_none h = rw (lt-leb (length ix) 96154 h)
 
@@ -128,67 +127,67 @@ module _ (f l : Text) (live : ℕ) (ix : List ℕ) where
     unfolding counts_of
     deletes_are = ap (λ (k : Counts). k.deleted) en
 
-    pub full_none : length l / 38 + n.deleted < live + n.added → NoRoom ≡ settled_of f l live ix
+    pub full_none : length l / 38 + n.deleted < live + n.added → None ≡ settled_of f l live ix
     unfolding settled_of has_room slots_in
     full_none h = rw (le-leb (length ix) 96154 few, ← adds_are, ← deletes_are, lt-leb (live + n.added) (length l / 38 + n.deleted) h)
 
-    pub over_none : length l / 38 + n.deleted < live → NoRoom ≡ settled_of f l live ix
+    pub over_none : length l / 38 + n.deleted < live → None ≡ settled_of f l live ix
     over_none h = full_none (omega arith)
 
-    pub fits_done : live + n.added ≤ length l / 38 + n.deleted → Done n ≡ settled_of f l live ix
+    pub fits_done : live + n.added ≤ length l / 38 + n.deleted → Some n ≡ settled_of f l live ix
     unfolding settled_of has_room slots_in
     fits_done h = rw (le-leb (length ix) 96154 few, ← adds_are, ← deletes_are, le-leb (live + n.added) (length l / 38 + n.deleted) h, en)
 
 pub ruleset for_room_for = (rules, many_none, over_none, full_none, fits_done)
 
 -- settle
-module _ (f l : Text) (live : ℕ) (ix : List ℕ) (s : Settled) (es : s ≡ settled_of f l live ix) where
-  room_if : (n : Counts) → s ≡ Done n → has_room f l live ix ≡ true
+module _ (f l : Text) (live : ℕ) (ix : List ℕ) (s : Option Counts) (es : s ≡ settled_of f l live ix) where
+  room_if : (n : Counts) → s ≡ Some n → has_room f l live ix ≡ true
   unfolding settled_of
   room_if n z = go (has_room f l live ix) (sym es ∙ z)
     where
-      go : (b : Bool) → cond b (Done (counts_of f ix)) NoRoom ≡ Done n → b ≡ true
+      go : (b : Bool) → cond b (Some (counts_of f ix)) None ≡ Some n → b ≡ true
       go true e = refl
       go false e = clash (cc)
 
-  none_if : s ≡ NoRoom → has_room f l live ix ≡ false
+  none_if : s ≡ None → has_room f l live ix ≡ false
   unfolding settled_of
   none_if z = go (has_room f l live ix) (sym es ∙ z)
     where
-      go : (b : Bool) → cond b (Done (counts_of f ix)) NoRoom ≡ NoRoom → b ≡ false
+      go : (b : Bool) → cond b (Some (counts_of f ix)) None ≡ None → b ≡ false
       go true e = clash (cc)
       go false e = refl
 
-  pub done_few : (n : Counts) → s ≡ Done n → length ix ≤ 96154
+  pub done_few : (n : Counts) → s ≡ Some n → length ix ≤ 96154
   unfolding has_room
   done_few n z =
       leb-true (length ix) 96154 (both (leb (length ix) 96154) (leb (live + length (part_of f 65 ix)) (slots_in l + length (part_of f 68 ix))) (room_if n z)).0
 
-  pub done_added : (n : Counts) → s ≡ Done n → n.added ≡ length (part_of f 65 ix)
+  pub done_added : (n : Counts) → s ≡ Some n → n.added ≡ length (part_of f 65 ix)
   unfolding settled_of counts_of
   done_added n z = go (has_room f l live ix) (sym es ∙ z)
     where
-      go : (b : Bool) → cond b (Done (counts_of f ix)) NoRoom ≡ Done n → n.added ≡ length (part_of f 65 ix)
+      go : (b : Bool) → cond b (Some (counts_of f ix)) None ≡ Some n → n.added ≡ length (part_of f 65 ix)
       go true e = sym (cc)
       go false e = clash (cc)
 
-  pub done_ledger : (n : Counts) (l' : Text) → s ≡ Done n → l' ≡ updated l live f (part_of f 65 ix) (part_of f 68 ix) → l' ≡ settled_ledger f l live ix
+  pub done_ledger : (n : Counts) (l' : Text) → s ≡ Some n → l' ≡ updated l live f (part_of f 65 ix) (part_of f 68 ix) → l' ≡ settled_ledger f l live ix
   unfolding settled_ledger
   done_ledger n l' z e = rw (room_if n z) e
 
-  pub done_index : (n : Counts) (ix' : List ℕ) → s ≡ Done n → ix' ≡ over (part_of f 65 ix) ix → ix' ≡ settled_index f l live ix
+  pub done_index : (n : Counts) (ix' : List ℕ) → s ≡ Some n → ix' ≡ over (part_of f 65 ix) ix → ix' ≡ settled_index f l live ix
   unfolding settled_index
   done_index n ix' z e = rw (room_if n z) e
 
-  pub none_ledger : s ≡ NoRoom → l ≡ settled_ledger f l live ix
+  pub none_ledger : s ≡ None → l ≡ settled_ledger f l live ix
   unfolding settled_ledger
   none_ledger z = rw (none_if z)
 
-  pub none_index : s ≡ NoRoom → ix ≡ settled_index f l live ix
+  pub none_index : s ≡ None → ix ≡ settled_index f l live ix
   unfolding settled_index
   none_index z = rw (none_if z)
 
-  pub as_told : (r : Settled) → s ≡ r → r ≡ settled_of f l live ix
+  pub as_told : (r : Option Counts) → s ≡ r → r ≡ settled_of f l live ix
   as_told r z = sym z ∙ es
 
 pub ruleset for_settle = (rules, done_few, done_added, done_ledger, done_index, none_ledger, none_index, as_told)

@@ -25,12 +25,11 @@ use Rattle.rules.specs.Blocks.{events_of, adds, changes, deletes}
 use Rattle.rules.specs.Firsts.{index_of, part_of}
 use Rattle.rules.proofs.TypeLaws.{part_count, part_among, part_ascends, part_after}
 use Rattle.answers.specs.declared.settle.Counts.{Counts}
-use Rattle.answers.specs.declared.settle.Settled.{Settled}
-use Rattle.answers.specs.declared.settle.Settled.TheVariants.{Done, NoRoom}
 use Rattle.answers.specs.Settled.{counts_of, has_room, settled_of, settled_ledger}
-use Rattle.answers.specs.declared.Answer.TheVariants.{Accepted, Full}
-use Rattle.answers.specs.Answers.{lent, left, added, changed, deleted, not_immunized, is_full, ledger_after, accepted, roomed}
+use Rattle.answers.specs.declared.Refusal.TheVariants.{Full}
+use Rattle.answers.specs.Answers.{accepting, lent, left, added, changed, deleted, not_immunized, is_full, ledger_after, accepted, roomed}
 use Rattle.answers.specs.Inside.{Settles, Settling}
+use Rattle.std.proofs.Common.{Option, Some, None, Err}
 
 -- what is live and added has room in the slots and those of the deleted
 abbrev Fit : Text → Text → Type 0
@@ -73,7 +72,7 @@ module _ (f l : Text) (s : Settles f l) where
 pub front_size : (n : ℕ) (room : List ℕ) → n ≤ length room → n ≡ length (take n room)
 front_size n room h = sym (length-take-le n room h)
 
-module _ (f l l' : Text) (live m : ℕ) (ix : List ℕ) (s : Settled) (es : s ≡ settled_of f l live ix) (el : l' ≡ settled_ledger f l live ix) (g : Settling f l live ix m) where
+module _ (f l l' : Text) (live m : ℕ) (ix : List ℕ) (s : Option Counts) (es : s ≡ settled_of f l live ix) (el : l' ≡ settled_ledger f l live ix) (g : Settling f l live ix m) where
   part_is : (type : ℕ) → length (part_of f type ix) ≡ length (events_of (type ∷ []) (contexts_in f))
   part_is type = ap (λ (ps : List ℕ). length (part_of f type ps)) g.index_is ∙ part_count f type
 
@@ -81,15 +80,15 @@ module _ (f l l' : Text) (live m : ℕ) (ix : List ℕ) (s : Settled) (es : s �
   unfolding has_room
   room_is = rw (le-leb (length ix) 96154 g.few, g.live_is, part_is 65, part_is 68)
 
-  told : (b : Bool) (n : Counts) → cond b (Done (counts_of f ix)) NoRoom ≡ Done n → (b ≡ true) × (counts_of f ix ≡ n)
+  told : (b : Bool) (n : Counts) → cond b (Some (counts_of f ix)) None ≡ Some n → (b ≡ true) × (counts_of f ix ≡ n)
   told true n e = (refl, cc)
   told false n e = clash (cc)
 
-  told_none : (b : Bool) → cond b (Done (counts_of f ix)) NoRoom ≡ NoRoom → b ≡ false
+  told_none : (b : Bool) → cond b (Some (counts_of f ix)) None ≡ None → b ≡ false
   told_none true e = clash (cc)
   told_none false e = refl
 
-  pub settled_full : s ≡ NoRoom → left Full l' [] ≡ roomed (lent 0 f [] l [])
+  pub settled_full : s ≡ None → left (Err Full) l' [] ≡ roomed (lent 0 f [] l [])
   unfolding settled_of settled_ledger roomed is_full added deleted
   settled_full z =
       let h : has_room f l live ix ≡ false = told_none (has_room f l live ix) (sym es ∙ z) in
@@ -97,7 +96,7 @@ module _ (f l l' : Text) (live m : ℕ) (ix : List ℕ) (s : Settled) (es : s �
       let over = leb-false (length (live_in l) + length (events_of adds (contexts_in f))) (slots_in l + length (events_of deletes (contexts_in f))) (sym room_is ∙ h) in
       rw (e, lt-ltb (slots_in l + length (events_of deletes (contexts_in f))) (length (live_in l) + length (events_of adds (contexts_in f))) over)
 
-  module _ (n : Counts) (z : s ≡ Done n) where
+  module _ (n : Counts) (z : s ≡ Some n) where
     there : (has_room f l live ix ≡ true) × (counts_of f ix ≡ n)
     unfolding settled_of
     there = told (has_room f l live ix) n (sym es ∙ z)
@@ -116,7 +115,7 @@ module _ (f l l' : Text) (live m : ℕ) (ix : List ℕ) (s : Settled) (es : s �
     ledger_is =
         el ∙ rw there.0 (ap (λ (ps : List ℕ). updated l live f (part_of f 65 ps) (part_of f 68 ps)) g.index_is ∙ updated_is f l g.settles live g.live_is fits)
 
-    pub settled_done : left (Accepted n.added n.changed n.deleted m) l' [] ≡ roomed (lent 0 f [] l [])
+    pub settled_done : left (accepting n.added n.changed n.deleted m) l' [] ≡ roomed (lent 0 f [] l [])
     unfolding roomed is_full accepted added changed deleted not_immunized
     settled_done =
         rw (le-ltb (slots_in l + length (events_of deletes (contexts_in f))) (length (live_in l) + length (events_of adds (contexts_in f))) fits)

@@ -11,17 +11,12 @@ use lib.ListN.{length, take}
 use Rattle.house.specs.Text.{Text, how_many, is_empty}
 use Rattle.dates.specs.Dates.{is_day}
 use Rattle.house.proofs.Small.{clash}
-use Rattle.lines.specs.declared.Shape.{Shape}
-use Rattle.lines.specs.declared.Shape.TheVariants.{Right, Fault}
+use Rattle.lines.specs.declared.Fault.{Fault}
 use Rattle.lines.specs.Records.{IN, is_kind, recs}
-use Rattle.lines.specs.Shape.{shape_of}
+use Rattle.lines.specs.Shape.{Shape, shape_of}
 use Rattle.book.specs.declared.Sections.{Sections}
-use Rattle.book.specs.declared.Validity.{Validity as BookValidity}
-use Rattle.book.specs.declared.Validity.TheVariants as the-book
 use Rattle.book.specs.Book.{Sound, valid_of as bookValid}
 use Rattle.book.proofs.ValidLaws.{valid_sound, valid_bad}
-use Rattle.ledger.specs.declared.Validity.{Validity as LedgerValidity}
-use Rattle.ledger.specs.declared.Validity.TheVariants as the-ledger
 use Rattle.ledger.proofs.EventLaws.{among_in}
 use Rattle.ledger.specs.Ledger.{ledger_ok, live_in, valid_of as ledgerValid}
 use Rattle.rules.specs.Findings.{Finding, area_after}
@@ -33,60 +28,58 @@ use Rattle.rules.proofs.CountLaws.{index_size}
 use Rattle.rules.proofs.SizeLaws.{blocks_size, capacity}
 use Rattle.rules.specs.declared.By.{By}
 use Rattle.rules.specs.declared.Judged.{Judged}
-use Rattle.rules.specs.declared.Judged.TheVariants.{Done, TooMany}
-use Rattle.rules.specs.Judged.{findings_by, judged_of, judged_area}
+use Rattle.rules.specs.Judged.{findings_by, judged as judging, judged_of as judgedBy, judged_area}
 use Rattle.rules.specs.Look.{book_in}
 use Rattle.rules.proofs.SettingLaws.{setting_is}
-use Rattle.answers.specs.declared.steps.Tally.{Tally}
-use Rattle.answers.specs.declared.Answer.{Answer}
-use Rattle.answers.specs.declared.Answer.TheVariants.{Date, Long, Book, Ledger, Shape as BadShape, Findings, Full}
-use Rattle.answers.specs.Answers.{Lent, Outcome, lent, left, setting_of, findings, added, changed, deleted, not_immunized, is_full, ledger_after, refused, accepted, with_findings, roomed, judged, check}
-use Rattle.answers.specs.Inside.{after_book, after_ledger, tally, tally_of, Ready, Settles, Settling, Judges}
+use Rattle.answers.specs.declared.Refusal.TheVariants.{Date, Long, Book, Ledger, Shape as BadShape, Findings, Full}
+use Rattle.answers.specs.Answers.{Answer, Lent, Outcome, lent, left, setting_of, findings, added, changed, deleted, not_immunized, is_full, ledger_after, refused, accepted, with_findings, roomed, judged, check}
+use Rattle.answers.specs.Inside.{after_book, after_ledger, judged_of, Ready, Settles, Settling, Judges}
+use Rattle.std.proofs.Common.{Option, Some, None, Ok, Err}
 
 -- check
 module _ (today : ℕ) (file book ledger area : Text) (d : Bool) (ed : d ≡ is_day today) where
-  pub check_date : d ≡ false → left Date ledger area ≡ check (lent today file book ledger area)
+  pub check_date : d ≡ false → left (Err Date) ledger area ≡ check (lent today file book ledger area)
   unfolding check
   check_date z = rw (← ed, z)
 
   module _ (zd : d ≡ true) where
-    pub check_long : 5000000 < length file → left Long ledger area ≡ check (lent today file book ledger area)
+    pub check_long : 5000000 < length file → left (Err Long) ledger area ≡ check (lent today file book ledger area)
     unfolding check
     check_long h = rw (← ed, zd, lt-ltb 5000000 (length file) h)
 
-    module _ (h : length file ≤ 5000000) (v : BookValidity) (ev : v ≡ bookValid book) where
-      pub check_book : v ≡ the-book.Malformed → left Book ledger area ≡ check (lent today file book ledger area)
+    module _ (h : length file ≤ 5000000) (v : Option Sections) (ev : v ≡ bookValid book) where
+      pub check_book : v ≡ None → left (Err Book) ledger area ≡ check (lent today file book ledger area)
       unfolding check
       check_book z = rw (← ed, zd, le-ltb 5000000 (length file) h, valid_bad book v ev z)
 
-      pub check_sound : (q : Sections) → v ≡ the-book.Valid q → Sound book q
+      pub check_sound : (q : Sections) → v ≡ Some q → Sound book q
       check_sound q z = valid_sound book v ev q z
 
-      pub check_on : (q : Sections) → v ≡ the-book.Valid q → (o : Outcome) → o ≡ after_book (lent today file book ledger area) → o ≡ check (lent today file book ledger area)
+      pub check_on : (q : Sections) → v ≡ Some q → (o : Outcome) → o ≡ after_book (lent today file book ledger area) → o ≡ check (lent today file book ledger area)
       unfolding check after_book after_ledger
       check_on q z o e = rw (← ed, zd, le-ltb 5000000 (length file) h, (valid_sound book v ev q z).ok) e
 
 pub ruleset for_check = (rules, check_date, check_long, check_book, check_sound, check_on)
 
 -- from_ledger
-module _ (today : ℕ) (file book ledger area : Text) (v : LedgerValidity) (ev : v ≡ ledgerValid ledger) where
-  ledger_says : (n : ℕ) → v ≡ the-ledger.Sound n → (ledger_ok ledger ≡ true) × (n ≡ length (live_in ledger))
+module _ (today : ℕ) (file book ledger area : Text) (v : Option ℕ) (ev : v ≡ ledgerValid ledger) where
+  ledger_says : (n : ℕ) → v ≡ Some n → (ledger_ok ledger ≡ true) × (n ≡ length (live_in ledger))
   unfolding ledgerValid
   ledger_says n z = go (ledger_ok ledger) refl (sym ev ∙ z)
     where
-      go : (b : Bool) → ledger_ok ledger ≡ b → cond b (the-ledger.Sound (length (live_in ledger))) the-ledger.Malformed ≡ the-ledger.Sound n → (ledger_ok ledger ≡ true) × (n ≡ length (live_in ledger))
+      go : (b : Bool) → ledger_ok ledger ≡ b → cond b (Some (length (live_in ledger))) None ≡ Some n → (ledger_ok ledger ≡ true) × (n ≡ length (live_in ledger))
       go true p r = (p, cc)
       go false p r = clash (cc)
 
-  pub ledger_bad : v ≡ the-ledger.Malformed → left Ledger ledger area ≡ after_book (lent today file book ledger area)
+  pub ledger_bad : v ≡ None → left (Err Ledger) ledger area ≡ after_book (lent today file book ledger area)
   unfolding after_book ledgerValid
   ledger_bad z = go (ledger_ok ledger) refl (sym ev ∙ z)
     where
-      go : (b : Bool) → ledger_ok ledger ≡ b → cond b (the-ledger.Sound (length (live_in ledger))) the-ledger.Malformed ≡ the-ledger.Malformed → left Ledger ledger area ≡ after_book (lent today file book ledger area)
+      go : (b : Bool) → ledger_ok ledger ≡ b → cond b (Some (length (live_in ledger))) None ≡ None → left (Err Ledger) ledger area ≡ after_book (lent today file book ledger area)
       go true p r = clash (cc)
       go false p r = rw p
 
-  module _ (n : ℕ) (z : v ≡ the-ledger.Sound n) where
+  module _ (n : ℕ) (z : v ≡ Some n) where
     pub ledger_ready : (q : Sections) → Sound book q → length file ≤ 5000000 → Ready (lent today file book ledger area) (record { today = today; sections = q; live = n })
     ledger_ready q s h = record { today_is = refl; book = s; short = h; ledger = (ledger_says n z).0; live_is = (ledger_says n z).1 }
 
@@ -98,14 +91,14 @@ pub ruleset for_from_ledger = (rules, ledger_bad, ledger_ready, ledger_on)
 
 -- from_shape
 module _ (today : ℕ) (file book ledger area : Text) (s : Shape) (es : s ≡ shape_of file) where
-  pub shape_fault : (n cause : ℕ) → s ≡ Fault n cause → left (BadShape n cause) ledger area ≡ after_ledger (lent today file book ledger area)
+  pub shape_fault : (fault : Fault) → s ≡ Err fault → left (Err (BadShape fault)) ledger area ≡ after_ledger (lent today file book ledger area)
   unfolding after_ledger
-  shape_fault n cause z = rw (← es, z)
+  shape_fault fault z = rw (← es, z)
 
-  pub shape_right : s ≡ Right → shape_of file ≡ Right
+  pub shape_right : s ≡ Ok tt → shape_of file ≡ Ok tt
   shape_right z = sym es ∙ z
 
-  pub shape_on : s ≡ Right → (o : Outcome) → o ≡ judged (lent today file book ledger area) → o ≡ after_ledger (lent today file book ledger area)
+  pub shape_on : s ≡ Ok tt → (o : Outcome) → o ≡ judged (lent today file book ledger area) → o ≡ after_ledger (lent today file book ledger area)
   unfolding after_ledger
   shape_on z o e = rw (← es, z) e
 
@@ -134,7 +127,7 @@ roomed_by file ledger today book area a l e =
     go true = refl
     go false = refl
 
-module _ (file : Text) (right : shape_of file ≡ Right) (short : length file ≤ 5000000) where
+module _ (file : Text) (right : shape_of file ≡ Ok tt) (short : length file ≤ 5000000) where
   few : length (firsts_of file) ≤ 96154
   few = capacity file right short
 
@@ -151,42 +144,37 @@ module _ (today : ℕ) (file bytes ledger area : Text) (by : By) (ready : Ready 
   unfolding findings_by findings setting_of
   by_look_up = rw (setting_is by bytes ledger ready.book ready.ledger ready.live_is, ready.today_is)
 
-  judged_is : shape_of file ≡ Right → (k : ℕ) → length file ≤ 52 * k → (j : Judged) → j ≡ judged_of file bytes by ledger k → j ≡ Done (length (firsts_of file)) (length (findings (lent today file (book_in by bytes) ledger area))) (how_many (is_kind IN) (recs file))
-  unfolding judged_of
+  judged_is : shape_of file ≡ Ok tt → (k : ℕ) → length file ≤ 52 * k → (j : Option Judged) → j ≡ judgedBy file bytes by ledger k → j ≡ Some (judging (length (firsts_of file)) (length (findings (lent today file (book_in by bytes) ledger area))) (how_many (is_kind IN) (recs file)))
+  unfolding judgedBy
   judged_is right k size j e = e ∙ rw (can file right ready.short k size, by_look_up)
 
 -- judge_into
-module _ (today : ℕ) (file bytes ledger area : Text) (j : Judged) (by : By) (k : ℕ) (ej : j ≡ judged_of file bytes by ledger k) (size : length file ≤ 52 * k) (right : shape_of file ≡ Right) (ready : Ready (lent today file (book_in by bytes) ledger area) by) where
-  pub tally_is : (b n m : ℕ) → j ≡ Done b n m → tally b n m ≡ tally_of (lent today file (book_in by bytes) ledger area)
-  unfolding tally_of not_immunized
-  tally_is b n m z =
-      let e : Done b n m ≡ Done (length (firsts_of file)) (length (findings (lent today file (book_in by bytes) ledger area))) (how_many (is_kind IN) (recs file)) = sym z ∙ judged_is today file bytes ledger area by ready right k size j ej in
-      let eb : b ≡ length (firsts_of file) = cc in
-      let en : n ≡ length (findings (lent today file (book_in by bytes) ledger area)) = cc in
-      let em : m ≡ how_many (is_kind IN) (recs file) = cc in
-      rw (eb, en, em)
+module _ (today : ℕ) (file bytes ledger area : Text) (j : Option Judged) (by : By) (k : ℕ) (ej : j ≡ judgedBy file bytes by ledger k) (size : length file ≤ 52 * k) (right : shape_of file ≡ Ok tt) (ready : Ready (lent today file (book_in by bytes) ledger area) by) where
+  pub tally_is : (t : Judged) → j ≡ Some t → t ≡ judged_of (lent today file (book_in by bytes) ledger area)
+  unfolding judged_of not_immunized
+  tally_is t z = cc (judged_is today file bytes ledger area by ready right k size j ej)
 
-  pub tally_never : (t : Tally) → j ≡ TooMany → t ≡ tally_of (lent today file (book_in by bytes) ledger area)
-  tally_never t z = clash (cc (judged_is today file bytes ledger area by ready right k size j ej))
+  pub tally_never : j ≡ None → ⊥
+  tally_never z = cc (judged_is today file bytes ledger area by ready right k size j ej)
 
 module _ (today : ℕ) (file bytes ledger area : Text) (by : By) where
-  pub tally_area : (area' : Text) (k : ℕ) → area' ≡ judged_area file bytes by ledger k area → length file ≤ 52 * k → shape_of file ≡ Right → Ready (lent today file (book_in by bytes) ledger area) by → area' ≡ area_after area (findings (lent today file (book_in by bytes) ledger area))
+  pub tally_area : (area' : Text) (k : ℕ) → area' ≡ judged_area file bytes by ledger k area → length file ≤ 52 * k → shape_of file ≡ Ok tt → Ready (lent today file (book_in by bytes) ledger area) by → area' ≡ area_after area (findings (lent today file (book_in by bytes) ledger area))
   unfolding judged_area
   tally_area area' k e size right ready = e ∙ rw (can file right ready.short k size, by_look_up today file bytes ledger area by ready)
 
 -- what a tally says
-module _ (today : ℕ) (file book ledger area : Text) (t : Tally) (et : t ≡ tally_of (lent today file book ledger area)) where
+module _ (today : ℕ) (file book ledger area : Text) (t : Judged) (et : t ≡ judged_of (lent today file book ledger area)) where
   found_are : t.findings ≡ length (findings (lent today file book ledger area))
-  unfolding tally_of
-  found_are = ap (λ (u : Tally). u.findings) et
+  unfolding judged_of
+  found_are = ap (λ (u : Judged). u.findings) et
 
   blocks_are : t.blocks ≡ length (firsts_of file)
-  unfolding tally_of
-  blocks_are = ap (λ (u : Tally). u.blocks) et
+  unfolding judged_of
+  blocks_are = ap (λ (u : Judged). u.blocks) et
 
   not_immunized_are : t.not_immunized ≡ how_many (is_kind IN) (recs file)
-  unfolding tally_of not_immunized
-  not_immunized_are = ap (λ (u : Tally). u.not_immunized) et
+  unfolding judged_of not_immunized
+  not_immunized_are = ap (λ (u : Judged). u.not_immunized) et
 
   no_findings : t.findings ≡ 0 → findings (lent today file book ledger area) ≡ []
   no_findings f = go (findings (lent today file book ledger area)) (sym found_are ∙ f)
@@ -195,7 +183,7 @@ module _ (today : ℕ) (file book ledger area : Text) (t : Tally) (et : t ≡ ta
       go [] e = refl
       go (y ∷ ys) e = absurd (omega arith)
 
-  module _ (room room' : List ℕ) (er : room' ≡ over (index_of file) room) (size : length file ≤ 52 * length room) (right : shape_of file ≡ Right) (by : By) (ready : Ready (lent today file book ledger area) by) where
+  module _ (room room' : List ℕ) (er : room' ≡ over (index_of file) room) (size : length file ≤ 52 * length room) (right : shape_of file ≡ Ok tt) (by : By) (ready : Ready (lent today file book ledger area) by) where
     index_long : length (index_of file) ≡ t.blocks
     index_long = index_size file ∙ sym blocks_are
 
@@ -230,26 +218,23 @@ module _ (today : ℕ) (file book ledger area : Text) (t : Tally) (et : t ≡ ta
         }
 
 -- judge_into
-module _ (today : ℕ) (file bytes ledger area : Text) (j : Judged) (by : By) (room room' : List ℕ) (ej : j ≡ judged_of file bytes by ledger (length room)) (er : room' ≡ built_in file room) (size : length file ≤ 52 * length room) (right : shape_of file ≡ Right) (ready : Ready (lent today file (book_in by bytes) ledger area) by) where
-  pub tally_judges : (b n m : ℕ) → j ≡ Done b n m → Judges file ledger by.live (tally b n m) room'
+module _ (today : ℕ) (file bytes ledger area : Text) (j : Option Judged) (by : By) (room room' : List ℕ) (ej : j ≡ judgedBy file bytes by ledger (length room)) (er : room' ≡ built_in file room) (size : length file ≤ 52 * length room) (right : shape_of file ≡ Ok tt) (ready : Ready (lent today file (book_in by bytes) ledger area) by) where
+  pub tally_judges : (t : Judged) → j ≡ Some t → Judges file ledger by.live t room'
   unfolding built_in
-  tally_judges b n m z =
-      judges today file (book_in by bytes) ledger area (tally b n m) (tally_is today file bytes ledger area j by (length room) ej size right ready b n m z) room room'
+  tally_judges t z =
+      judges today file (book_in by bytes) ledger area t (tally_is today file bytes ledger area j by (length room) ej size right ready t z) room room'
       (er ∙ rw (can file right ready.short (length room) size)) size right by ready
 
-  pub never_judges : (t : Tally) → j ≡ TooMany → Judges file ledger by.live t room'
-  never_judges t z = clash (cc (judged_is today file bytes ledger area by ready right (length room) size j ej))
-
-pub ruleset for_judge_into = (rules, tally_is, tally_never, tally_area, tally_judges, never_judges)
+pub ruleset for_judge_into = (rules, tally_is, tally_never, tally_area, tally_judges)
 
 -- judge_and_settle
-module _ (today : ℕ) (file book ledger area : Text) (t : Tally) (et : t ≡ tally_of (lent today file book ledger area)) where
+module _ (today : ℕ) (file book ledger area : Text) (t : Judged) (et : t ≡ judged_of (lent today file book ledger area)) where
   module _ (area' : Text) (ea : area' ≡ area_after area (findings (lent today file book ledger area))) where
-    pub with_findings_lem : (t.findings ≡ 0 → ⊥) → left (Findings t.findings) ledger area' ≡ judged (lent today file book ledger area)
+    pub with_findings_lem : (t.findings ≡ 0 → ⊥) → left (Err (Findings t.findings)) ledger area' ≡ judged (lent today file book ledger area)
     unfolding judged with_findings
     with_findings_lem f = go (findings (lent today file book ledger area)) (found_are today file book ledger area t et) ea
       where
-        go : (ys : List Finding) → t.findings ≡ length ys → area' ≡ area_after area ys → left (Findings t.findings) ledger area' ≡ cond (is_empty ys) (roomed (lent today file book ledger area)) (left (Findings (length ys)) ledger (area_after area ys))
+        go : (ys : List Finding) → t.findings ≡ length ys → area' ≡ area_after area ys → left (Err (Findings t.findings)) ledger area' ≡ cond (is_empty ys) (roomed (lent today file book ledger area)) (left (Err (Findings (length ys))) ledger (area_after area ys))
         go [] e g = absurd (f e)
         go (y ∷ ys) e g = rw (← e, ← g)
 
@@ -257,7 +242,7 @@ module _ (today : ℕ) (file book ledger area : Text) (t : Tally) (et : t ≡ ta
     unfolding judged
     settled_on a l f e = let n = no_findings today file book ledger area t et f in rw (n, ea, n, area_none area) (roomed_by file ledger today book area a l e)
 
-module _ (file ledger : Text) (live : ℕ) (t : Tally) (room : List ℕ) (g : Judges file ledger live t room) where
+module _ (file ledger : Text) (live : ℕ) (t : Judged) (room : List ℕ) (g : Judges file ledger live t room) where
   pub judges_part : t.blocks ≤ length room
   judges_part = g.part
 

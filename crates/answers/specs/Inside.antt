@@ -12,8 +12,9 @@ use Rattle.rules.specs.declared.By.{By}
 use Rattle.rules.specs.Contexts.{contexts_in}
 use Rattle.rules.specs.Blocks.{events_of, adds, deletes}
 use Rattle.rules.specs.Firsts.{firsts_of, index_of}
-use Rattle.answers.specs.declared.steps.Tally.{Tally}
-use Rattle.answers.specs.declared.Answer.TheVariants.{Ledger}
+use Rattle.rules.specs.declared.Judged.{Judged}
+use Rattle.rules.specs.Judged.{judged}
+use Rattle.answers.specs.declared.Refusal.TheVariants.{Ledger}
 use Rattle.answers.specs.Answers.{Lent, Outcome, file_most, lent, findings, not_immunized, refused, shaped}
 
 -- room for a book and its hash table
@@ -48,12 +49,9 @@ pub record Ready (x : Lent) (by : By) : Type 0 where
 abbrev pub as_lent : By → Text → Text → Text → Text → Lent
 as_lent by file book ledger area = lent by.today file book ledger area
 
-abbrev pub tally : ℕ → ℕ → ℕ → Tally
-tally blocks found not_immunized_count = record { blocks = blocks; findings = found; not_immunized = not_immunized_count }
-
 -- how many blocks, findings and IN records there are
-unfoldable pub tally_of : Lent → Tally
-tally_of x = tally (length (firsts_of x.file)) (length (findings x)) (not_immunized x)
+unfoldable pub judged_of : Lent → Judged
+judged_of x = judged (length (firsts_of x.file)) (length (findings x)) (not_immunized x)
 
 -- the ledger is well formed, and the blocks of the file name events once, those that it deletes being live
 pub record Settles (file ledger : Text) : Type 0 where
@@ -71,6 +69,6 @@ pub record Settling (file ledger : Text) (live : ℕ) (index : List ℕ) (not_im
   pub not_immunized_is : not_immunized_count ≡ how_many (is_kind IN) (recs file)
 
 -- judging leaves the index of the blocks at the front of a buffer, and where there are no findings the file can be settled
-pub record Judges (file ledger : Text) (live : ℕ) (t : Tally) (buffer : List ℕ) : Type 0 where
+pub record Judges (file ledger : Text) (live : ℕ) (t : Judged) (buffer : List ℕ) : Type 0 where
   pub part : t.blocks ≤ length buffer
   pub settling : t.findings ≡ 0 → Settling file ledger live (take t.blocks buffer) t.not_immunized

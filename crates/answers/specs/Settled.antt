@@ -1,7 +1,7 @@
 -- Working definitions: what settling the blocks of an index leaves, for any bytes and places that are lent: whether there was room, the
 -- ledger, and the index.
 -- Assumes nothing.
-use Rattle.std.specs.Prelude.{ℕ, ◌+◌, Bool, cond, ◌&&◌, List, length, leb}
+use Rattle.std.specs.Prelude.{ℕ, ◌+◌, Bool, cond, ◌&&◌, List, length, leb, Option, Some, None}
 use Rattle.house.specs.Text.{Text}
 use Rattle.lines.specs.Sorted.{places_most}
 use Rattle.ledger.specs.Ledger.{slots_in}
@@ -9,8 +9,6 @@ use Rattle.ledger.specs.Updates.{updated}
 use Rattle.rules.specs.Firsts.{part_of}
 use Rattle.house.specs.Over.{over}
 use Rattle.answers.specs.declared.settle.Counts.{Counts}
-use Rattle.answers.specs.declared.settle.Settled.{Settled}
-use Rattle.answers.specs.declared.settle.Settled.TheVariants.{Done, NoRoom}
 
 -- so few places that a small buffer serves
 abbrev pub few_places : ℕ
@@ -47,8 +45,8 @@ unfoldable pub has_room : Text → Text → ℕ → List ℕ → Bool
 has_room f ledger n ps =
     leb (length ps) places_most && leb (n + length (part_of f add_letter ps)) (slots_in ledger + length (part_of f delete_letter ps))
 
-unfoldable pub settled_of : Text → Text → ℕ → List ℕ → Settled
-settled_of f ledger n ps = cond (has_room f ledger n ps) (Done (counts_of f ps)) NoRoom
+unfoldable pub settled_of : Text → Text → ℕ → List ℕ → Option Counts
+settled_of f ledger n ps = cond (has_room f ledger n ps) (Some (counts_of f ps)) None
 
 -- the ledger after; as it was where there is no room
 unfoldable pub settled_ledger : Text → Text → ℕ → List ℕ → Text

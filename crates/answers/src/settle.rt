@@ -16,13 +16,6 @@ pub(crate) struct Counts {
     pub deleted: usize,
 }
 
-// Whether the ledger has been brought up to date.
-#[derive(Clone, Copy)]
-pub(crate) enum Settled {
-    Done(Counts),
-    NoRoom,
-}
-
 // Brings the ledger up to date by the index of the blocks and the places of those deleted. The index keeps the places of those added.
 fn update_by(file: &[u8], ledger: &mut [u8], live: usize, index: &mut [u32], deletes: &[u32])
     ensures ledger_after { ledger.new ≡ updated_with ledger.old live file.now index.old deletes.now }
@@ -113,38 +106,43 @@ fn count_types(file: &[u8], index: &[u32]) -> Counts
 
 // How many blocks add, change and delete, if the index has no more places than can be sorted and the ledger, with so many live events, room
 // for what they add.
-fn room_for(file: &[u8], ledger: &[u8], live: usize, index: &[u32]) -> Settled
+fn room_for(file: &[u8], ledger: &[u8], live: usize, index: &[u32]) -> Option<Counts>
     ensures { result ≡ settled_of file.now ledger.now live index.now }
 {
     if MOST_PLACES < index.len() {
-        return Settled::NoRoom;
+        return None;
     }
     let n = count_types(file, index);
     let added = n.added;
     let deleted = n.deleted;
     let room = ledger.len() / SLOT + deleted;
     if room < live {
-        return Settled::NoRoom;
+        return None;
     }
     if room < live + added {
-        return Settled::NoRoom;
+        return None;
     }
-    Settled::Done(n)
+    Some(n)
 }
 
 // Settles the blocks of an index, over a ledger with so many live events. Where there is no room, all stays as it is.
-pub(crate) fn settle(file: &[u8], ledger: &mut [u8], live: usize, index: &mut [u32]) -> Settled
+pub(crate) fn settle(
+    file: &[u8],
+    ledger: &mut [u8],
+    live: usize,
+    index: &mut [u32],
+) -> Option<Counts>
     ensures value { result ≡ settled_of file.now ledger.old live index.old }
     ensures ledger_after { ledger.new ≡ settled_ledger file.now ledger.old live index.old }
     ensures index_after { index.new ≡ settled_index file.now ledger.old live index.old }
 {
     let s = room_for(file, ledger, live, index);
     match s {
-        Settled::Done(n) => {
+        Some(n) => {
             let added = n.added;
             bring_up_to_date(file, ledger, live, index, added);
-            Settled::Done(n)
+            Some(n)
         }
-        Settled::NoRoom => Settled::NoRoom,
+        None => None,
     }
 }

@@ -1,18 +1,17 @@
 // The steps of the check, in the order of document 01's answers: each function answers from one of them on.
 ghost use Rattle.std.specs.Prelude.{◌≡◌, [], ◌*◌, ◌≤◌, length, take};
-ghost use Rattle.lines.specs.declared.Shape.TheVariants.{Right};
 ghost use Rattle.lines.specs.Shape.{shape_of};
 ghost use Rattle.book.specs.Book.{Sound};
 ghost use Rattle.rules.specs.Findings.{area_after};
 ghost use Rattle.rules.specs.Look.{book_in};
 ghost use Rattle.answers.specs.Answers.{file_most, lent, left, findings, roomed, judged, Gives};
-ghost use Rattle.answers.specs.Inside.{book_buffer, block_least, short_file, after_book, after_ledger, as_lent, tally_of, Ready, Settling, Judges};
+ghost use Rattle.answers.specs.Inside.{book_buffer, block_least, short_file, after_book, after_ledger, as_lent, judged_of, Ready, Settling, Judges};
 
-use crate::settle::Settled;
-use crate::{Answer, FEW_PLACES};
+use crate::settle::settle;
+use crate::{Accepted, FEW_PLACES, Refusal};
 use book::Sections;
 use dates::Date;
-use lines::{MOST_PLACES, Shape};
+use lines::MOST_PLACES;
 use rules::{By, Judged, MOST_BYTES};
 
 // Room for a book, which has 262,144 bytes at most, and its hash table, which has 65,536.
@@ -20,14 +19,6 @@ const BOOK_BUFFER: usize = 327680;
 
 // A file so short that neither a hash table nor a large buffer is worth its clearing.
 const SHORT_FILE: usize = 16384;
-
-// How many blocks, findings and IN records there are.
-#[derive(Clone, Copy)]
-struct Tally {
-    blocks: usize,
-    findings: usize,
-    not_immunized: usize,
-}
 
 // Judges a file of right shape, by a book and what follows it, be that its hash table or nothing: the findings go to their area, and the index
 // of the blocks to the front of a buffer.
@@ -38,31 +29,18 @@ fn judge_into(
     ledger: &[u8],
     area: &mut [u8],
     buffer: &mut [u32],
-) -> Tally
+) -> Judged
     requires ready { Ready (as_lent by file.now (book_in by hashed.now) ledger.now area.old) by }
-    requires file_value { shape_of file.now ≡ Right }
+    requires file_value { shape_of file.now ≡ Ok tt }
     requires file_len_bound { length file.now ≤ block_least * length buffer.old }
-    ensures value { result ≡ tally_of (as_lent by file.now (book_in by hashed.now) ledger.now area.old) }
+    ensures value { result ≡ judged_of (as_lent by file.now (book_in by hashed.now) ledger.now area.old) }
     ensures area_after { area.new ≡ area_after area.old
         (findings (as_lent by file.now (book_in by hashed.now) ledger.now area.old)) }
     ensures judges { Judges file.now ledger.now by.live result buffer.new }
 {
-    let j = rules::judge(file, hashed, by, ledger, buffer, area);
-    match j {
-        Judged::Done {
-            blocks,
-            findings,
-            not_immunized,
-        } => Tally {
-            blocks,
-            findings,
-            not_immunized,
-        },
-        Judged::TooMany => Tally {
-            blocks: 0,
-            findings: 0,
-            not_immunized: 0,
-        },
+    match rules::judge(file, hashed, by, ledger, buffer, area) {
+        Some(judged) => judged,
+        None => unreachable!(),
     }
 }
 
@@ -74,21 +52,18 @@ fn settle_blocks(
     buffer: &mut [u32],
     blocks: usize,
     not_immunized: usize,
-) -> Answer
+) -> Result<Accepted, Refusal>
     requires settling { Settling file.now ledger.old live (take blocks buffer.old) not_immunized }
     requires blocks_in_bounds { blocks ≤ length buffer.old }
     ensures { left result ledger.new [] ≡ roomed (lent 0 file.now [] ledger.old []) }
 {
-    let s = crate::settle::settle(file, ledger, live, &mut buffer[..blocks]);
-    match s {
-        Settled::Done(n) => Answer::Accepted {
-            added: n.added,
-            changed: n.changed,
-            deleted: n.deleted,
-            not_immunized,
-        },
-        Settled::NoRoom => Answer::Full,
-    }
+    let counts = settle(file, ledger, live, &mut buffer[..blocks]).ok_or(Refusal::Full)?;
+    Ok(Accepted {
+        added: counts.added,
+        changed: counts.changed,
+        deleted: counts.deleted,
+        not_immunized,
+    })
 }
 
 // From FINDINGS on, by a book and what follows it, in a buffer for the index.
@@ -99,9 +74,9 @@ fn judge_and_settle(
     ledger: &mut [u8],
     area: &mut [u8],
     buffer: &mut [u32],
-) -> Answer
+) -> Result<Accepted, Refusal>
     requires ready { Ready (as_lent by file.now (book_in by hashed.now) ledger.old area.old) by }
-    requires file_value { shape_of file.now ≡ Right }
+    requires file_value { shape_of file.now ≡ Ok tt }
     requires file_len_bound { length file.now ≤ block_least * length buffer.old }
     ensures { left result ledger.new area.new
         ≡ judged (as_lent by file.now (book_in by hashed.now) ledger.old area.old) }
@@ -111,7 +86,7 @@ fn judge_and_settle(
     if findings == 0 {
         settle_blocks(file, ledger, by.live, buffer, n.blocks, n.not_immunized)
     } else {
-        Answer::Findings(findings)
+        Err(Refusal::Findings(findings))
     }
 }
 
@@ -122,9 +97,9 @@ fn lend_index_buffer(
     by: By,
     ledger: &mut [u8],
     area: &mut [u8],
-) -> Answer
+) -> Result<Accepted, Refusal>
     requires ready { Ready (as_lent by file.now (book_in by hashed.now) ledger.old area.old) by }
-    requires file_value { shape_of file.now ≡ Right }
+    requires file_value { shape_of file.now ≡ Ok tt }
     ensures { left result ledger.new area.new
         ≡ judged (as_lent by file.now (book_in by hashed.now) ledger.old area.old) }
 {
@@ -140,9 +115,9 @@ fn judge_by_hash(
     ledger: &mut [u8],
     area: &mut [u8],
     buffer: &mut [u8],
-) -> Answer
+) -> Result<Accepted, Refusal>
     requires ready { Ready (as_lent by file.now book.now ledger.old area.old) by }
-    requires file_value { shape_of file.now ≡ Right }
+    requires file_value { shape_of file.now ≡ Ok tt }
     requires buffer_len { length buffer.old ≡ book_buffer }
     ensures { left result ledger.new area.new
         ≡ judged (as_lent by file.now book.now ledger.old area.old) }
@@ -152,9 +127,15 @@ fn judge_by_hash(
 }
 
 // From FINDINGS on, of any file: by a copy of the book with its hash table.
-fn lend_book_buffer(file: &[u8], book: &[u8], by: By, ledger: &mut [u8], area: &mut [u8]) -> Answer
+fn lend_book_buffer(
+    file: &[u8],
+    book: &[u8],
+    by: By,
+    ledger: &mut [u8],
+    area: &mut [u8],
+) -> Result<Accepted, Refusal>
     requires ready { Ready (as_lent by file.now book.now ledger.old area.old) by }
-    requires file_value { shape_of file.now ≡ Right }
+    requires file_value { shape_of file.now ≡ Ok tt }
     ensures { left result ledger.new area.new
         ≡ judged (as_lent by file.now book.now ledger.old area.old) }
 {
@@ -163,9 +144,15 @@ fn lend_book_buffer(file: &[u8], book: &[u8], by: By, ledger: &mut [u8], area: &
 }
 
 // From FINDINGS on, of a short file: by the book as it is, without a hash table.
-fn judge_short(file: &[u8], book: &[u8], by: By, ledger: &mut [u8], area: &mut [u8]) -> Answer
+fn judge_short(
+    file: &[u8],
+    book: &[u8],
+    by: By,
+    ledger: &mut [u8],
+    area: &mut [u8],
+) -> Result<Accepted, Refusal>
     requires ready { Ready (as_lent by file.now book.now ledger.old area.old) by }
-    requires file_value { shape_of file.now ≡ Right }
+    requires file_value { shape_of file.now ≡ Ok tt }
     requires file_len_bound { length file.now ≤ short_file }
     ensures { left result ledger.new area.new
         ≡ judged (as_lent by file.now book.now ledger.old area.old) }
@@ -175,9 +162,15 @@ fn judge_short(file: &[u8], book: &[u8], by: By, ledger: &mut [u8], area: &mut [
 }
 
 // From FINDINGS on.
-fn from_findings(file: &[u8], book: &[u8], by: By, ledger: &mut [u8], area: &mut [u8]) -> Answer
+fn from_findings(
+    file: &[u8],
+    book: &[u8],
+    by: By,
+    ledger: &mut [u8],
+    area: &mut [u8],
+) -> Result<Accepted, Refusal>
     requires ready { Ready (as_lent by file.now book.now ledger.old area.old) by }
-    requires file_value { shape_of file.now ≡ Right }
+    requires file_value { shape_of file.now ≡ Ok tt }
     ensures { left result ledger.new area.new
         ≡ judged (as_lent by file.now book.now ledger.old area.old) }
 {
@@ -189,16 +182,19 @@ fn from_findings(file: &[u8], book: &[u8], by: By, ledger: &mut [u8], area: &mut
 }
 
 // From SHAPE on.
-fn from_shape(file: &[u8], book: &[u8], by: By, ledger: &mut [u8], area: &mut [u8]) -> Answer
+fn from_shape(
+    file: &[u8],
+    book: &[u8],
+    by: By,
+    ledger: &mut [u8],
+    area: &mut [u8],
+) -> Result<Accepted, Refusal>
     requires { Ready (as_lent by file.now book.now ledger.old area.old) by }
     ensures { left result ledger.new area.new
         ≡ after_ledger (as_lent by file.now book.now ledger.old area.old) }
 {
-    let s = lines::shape_of(file);
-    match s {
-        Shape::Right => from_findings(file, book, by, ledger, area),
-        Shape::Fault { line, cause } => Answer::Shape { line, cause },
-    }
+    lines::shape_of(file)?;
+    from_findings(file, book, by, ledger, area)
 }
 
 // From LEDGER on.
@@ -206,44 +202,41 @@ fn from_ledger(
     today: u32,
     file: &[u8],
     book: &[u8],
-    q: Sections,
+    sections: Sections,
     ledger: &mut [u8],
     area: &mut [u8],
-) -> Answer
-    requires sound { Sound book.now q }
+) -> Result<Accepted, Refusal>
+    requires sound { Sound book.now sections }
     requires file_len_bound { length file.now ≤ file_most }
     ensures { left result ledger.new area.new
         ≡ after_book (lent today file.now book.now ledger.old area.old) }
 {
-    let v = ledger::valid(ledger);
-    match v {
-        ledger::Validity::Sound { live } => {
-            let by = By {
-                today,
-                sections: q,
-                live,
-            };
-            from_shape(file, book, by, ledger, area)
-        }
-        ledger::Validity::Malformed => Answer::Ledger,
-    }
+    let live = ledger::valid(ledger).ok_or(Refusal::Ledger)?;
+    let by = By {
+        today,
+        sections,
+        live,
+    };
+    from_shape(file, book, by, ledger, area)
 }
 
 // The check. The ledger alters only at ACCEPTED, the findings area only at FINDINGS.
-pub fn check(today: u32, file: &[u8], book: &[u8], ledger: &mut [u8], area: &mut [u8]) -> Answer
+pub fn check(
+    today: u32,
+    file: &[u8],
+    book: &[u8],
+    ledger: &mut [u8],
+    area: &mut [u8],
+) -> Result<Accepted, Refusal>
     ensures { Gives (lent today file.now book.now ledger.old area.old)
         result ledger.new area.new }
 {
-    if Date::is_day(today) {
-        if MOST_BYTES < file.len() {
-            return Answer::Long;
-        }
-        let v = book::valid(book);
-        match v {
-            book::Validity::Valid(q) => from_ledger(today, file, book, q, ledger, area),
-            book::Validity::Malformed => Answer::Book,
-        }
-    } else {
-        Answer::Date
+    if !Date::is_day(today) {
+        return Err(Refusal::Date);
     }
+    if MOST_BYTES < file.len() {
+        return Err(Refusal::Long);
+    }
+    let sections = book::valid(book).ok_or(Refusal::Book)?;
+    from_ledger(today, file, book, sections, ledger, area)
 }

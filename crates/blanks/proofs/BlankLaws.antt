@@ -3,56 +3,20 @@
 use mathlib.Core.Path.{◌≡◌, refl, sym, ap, ◌∙◌}
 use mathlib.Core.Bool.{Bool, true, false, cond, ◌&&◌}
 use mathlib.Core.List.{[], ◌∷◌, ◌++◌}
-use Prim.Native.Nat.{ℕ, zero, suc, ◌+◌, ◌-◌, ◌≤◌, ◌<◌}
+use Prim.Native.Nat.{ℕ, suc, ◌+◌, ◌-◌, ◌≤◌, ◌<◌}
 use native.Mathlib.Omega.{arith}
 use borrow.Author.Rules.{rules}
-use borrow.Author.Tests.{eq-eqb, ne_eqb, le-ltb}
+use borrow.Author.Tests.{ne_eqb}
 use lib.Dec.{eqb}
 use lib.ListN.{length, get_or, take, drop}
 use lib.Seq.{take_all, take-suc, take-add}
 use Rattle.house.specs.Text.{Text, all, after_front, is_empty, is_blank}
-use Rattle.house.specs.Numbers.{greater_of}
 use Rattle.house.proofs.Small.{both}
-use Rattle.house.proofs.Suffix.{drop_here, drop_past, rest}
 use Rattle.blanks.specs.Blanks.{without_last_blanks, trimmed}
-use Rattle.blanks.specs.Inside.{other_of}
-
--- other
-module _ (b : ℕ) where
-  pub other_none : b ≡ 32 → 0 ≡ other_of b
-  other_none e = rw (eq-eqb b 32 e)
-
-  pub other_one : (b ≡ 32 → ⊥) → 1 ≡ other_of b
-  other_one n = rw (ne_eqb b 32 n)
-
-pub ruleset for_other = (rules, other_none, other_one)
 
 -- all_blank: the answer, where o is greater than 0 if a byte before those of t is no blank
 abbrev pub blanks_in : ℕ → Text → Bool
 blanks_in o t = cond (eqb o 0) (all is_blank t) false
-
-pub blank_start : (t : Text) → all is_blank t ≡ blanks_in 0 (drop 0 t)
-blank_start t = refl
-
-module _ (t : Text) (i o : ℕ) (x : Bool) (inv : x ≡ blanks_in o (drop i t)) where
-  pub blank_on : (f n : ℕ) → i < length t → f ≡ other_of (get_or t i 0) → n ≡ greater_of o f → x ≡ blanks_in n (drop (i + 1) t)
-  blank_on f n k e g = inv ∙ rw (drop_here t i k, g, e) (go (eqb (get_or t i 0) 32) o)
-    where
-      go : (u : Bool) (o : ℕ)
-          → cond (eqb o 0) (u && all is_blank (drop (i + 1) t)) false ≡ cond (eqb (greater_of o (cond u 0 1)) 0) (all is_blank (drop (i + 1) t)) false
-      go true zero = refl
-      go true (suc o) = rw (le-ltb (suc o) 0 (omega arith))
-      go false zero = refl
-      go false (suc o) = rw (le-ltb (suc o) 1 (omega arith), ne_eqb (suc o) 0 (λ e. omega (arith, e)))
-
-  pub blank_end : length t ≤ i → eqb o 0 ≡ x
-  blank_end k = sym (inv ∙ rw (drop_past t i k) (go (eqb o 0)))
-    where
-      go : (u : Bool) → cond u true false ≡ u
-      go true = refl
-      go false = refl
-
-pub ruleset for_all_blank = (rules, blank_start, blank_on, blank_end)
 
 -- blanks behind a text do not matter
 blanks_none : (u : Text) → all is_blank u ≡ true → without_last_blanks u ≡ []
@@ -109,30 +73,6 @@ module _ (t : Text) (n : ℕ) (h : n ≤ length t) (inv : without_last_blanks (t
 pub ruleset for_pass_back = (rules, back_on)
 
 pub ruleset for_last_blanks = (rules, back_all, back_one, back_here, back_none)
-
--- first_blanks
-pub front_all : (t : Text) → drop 0 t ≡ t
-front_all t = refl
-
-module _ (t : Text) (i : ℕ) (inv : after_front is_blank (drop i t) ≡ after_front is_blank t) where
-  pub front_on : i < length t → get_or t i 0 ≡ 32 → after_front is_blank (drop (i + 1) t) ≡ after_front is_blank t
-  front_on h e = rw (← inv, drop_here t i h, eq-eqb _ _ e)
-
-  pub front_here : i < length t → (get_or t i 0 ≡ 32 → ⊥) → drop i t ≡ after_front is_blank t
-  front_here h n = rw (← inv, drop_here t i h, ne_eqb _ _ n)
-
-  pub front_end : length t ≤ i → drop i t ≡ after_front is_blank t
-  front_end h = rw (← inv, drop_past t i h)
-
-pub ruleset for_first_blanks = (rules, front_on, front_here, front_end)
-
-pub ruleset for_without_first = (rules, rest)
-
--- trim_end
-pub end_is : (t : Text) (n : ℕ) → take n t ≡ without_last_blanks t → take (n - 0) (drop 0 t) ≡ without_last_blanks t
-end_is t n a = let e : n - 0 ≡ n = omega arith in ap (λ (m : ℕ). take m t) e ∙ a
-
-pub ruleset for_trim_end = (rules, end_is)
 
 -- trim
 pub trim_is : (t r u : Text) → u ≡ without_last_blanks t → r ≡ after_front is_blank u → r ≡ trimmed t

@@ -15,10 +15,7 @@ const SOME: usize = 32;
 fn other(b: u8) -> u8
     ensures { result ≡ other_of b }
 {
-    if b == b' ' {
-        return 0;
-    }
-    1
+    u8::from(b != b' ')
 }
 
 // Whether a text has nothing but blanks: it is looked at whole, so that many bytes are looked at together.
@@ -26,10 +23,8 @@ fn all_blank(text: &[u8]) -> bool
     ensures { result ≡ all is_blank text.now }
 {
     let mut others: u8 = 0;
-    let mut i = 0;
-    while i < text.len() {
-        others = house::greater_byte(others, other(text[i]));
-        i += 1;
+    for b in text {
+        others = house::greater_byte(others, other(*b));
     }
     others == 0
 }
@@ -43,6 +38,7 @@ fn pass_back(text: &[u8], end: usize, stride: usize) -> usize
     ensures text_value_2 { without_last_blanks (take result text.now) ≡ without_last_blanks text.now }
 {
     let mut n = end;
+    // Not a `for`: the end goes back by a stride.
     while stride <= n {
         if all_blank(&text[n - stride..n]) {
             n -= stride;
@@ -59,12 +55,10 @@ fn last_blanks(text: &[u8]) -> usize
     ensures text_value { take result text.now ≡ without_last_blanks text.now }
 {
     let m = pass_back(text, text.len(), MANY);
-    let mut n = pass_back(text, m, SOME);
-    while 0 < n {
-        if text[n - 1] == b' ' {
-            n -= 1;
-        } else {
-            return n;
+    let n = pass_back(text, m, SOME);
+    for i in (0..n).rev() {
+        if text[i] != b' ' {
+            return i + 1;
         }
     }
     0
@@ -75,15 +69,12 @@ fn first_blanks(text: &[u8]) -> usize
     ensures upper_bound { result ≤ length text.now }
     ensures text_value { drop result text.now ≡ after_front is_blank text.now }
 {
-    let mut i = 0;
-    while i < text.len() {
-        if text[i] == b' ' {
-            i += 1;
-        } else {
+    for (i, b) in text.iter().enumerate() {
+        if *b != b' ' {
             return i;
         }
     }
-    i
+    text.len()
 }
 
 // A text without the blanks that it begins with.

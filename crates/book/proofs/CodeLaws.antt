@@ -1,4 +1,4 @@
--- What each need of `eight_are`, `has_code` and `code_order` asks.
+-- What each need of `has_code` and `code_order` asks, and eight bytes that are all nines.
 -- Assumes nothing.
 use mathlib.Core.Path.{◌≡◌, refl, sym, ap, ◌∙◌}
 use mathlib.Core.Bool.{Bool, true, false, ◌&&◌}
@@ -9,28 +9,17 @@ use native.Mathlib.Omega.{arith}
 use borrow.Author.Tests.{eqb-true}
 use borrow.Author.Rules.{rules}
 use lib.Dec.{eqb}
-use lib.ListN.{length, get_or, take, drop, length-drop}
+use lib.ListN.{length, take, drop, length-drop}
 use lib.Seq.{drop-drop, take-add, length-take-le}
 use Rattle.house.specs.Text.{Text, all, number, is_same, order_of, pad}
-use Rattle.house.specs.declared.Order.{Order}
-use Rattle.house.specs.declared.Order.TheVariants.{Less, Same, More}
+use Rattle.std.specs.declared.cmp.Ordering.{Ordering}
+use Rattle.std.specs.declared.cmp.Ordering.TheVariants.{Less, Equal, Greater}
 use Rattle.house.proofs.Small.{both}
-use Rattle.house.proofs.OrderAlgebra.{or_else, order_append}
+use Rattle.house.proofs.OrderAlgebra.{order_append}
 use Rattle.house.proofs.OrderLaws.{length_pad}
-use Rattle.house.proofs.Suffix.{eight}
-use Rattle.house.proofs.DigitLaws.{together}
 use Rattle.book.specs.Inside.{is_byte, code_order, Tells, Blank, Stands}
 use Rattle.book.proofs.FilledLaws.{filled_is, unfilled}
-
--- eight_are
-pub eight_same : (s : Text) (i v : ℕ) → i + 8 ≤ length s
-    → (eqb (get_or s i 0) v && eqb (get_or s (i + 1) 0) v && eqb (get_or s (i + 2) 0) v && eqb (get_or s (i + 3) 0) v && eqb (get_or s (i + 4) 0) v && eqb (get_or s (i + 5) 0) v && eqb (get_or s (i + 6) 0) v && eqb (get_or s (i + 7) 0) v)
-    ≡ all (is_byte v) (take 8 (drop i s))
-eight_same s i v h =
-    rw (eight s i h)
-    (together (eqb (get_or s i 0) v) (eqb (get_or s (i + 1) 0) v) (eqb (get_or s (i + 2) 0) v) (eqb (get_or s (i + 3) 0) v) (eqb (get_or s (i + 4) 0) v) (eqb (get_or s (i + 5) 0) v) (eqb (get_or s (i + 6) 0) v) (eqb (get_or s (i + 7) 0) v))
-
-pub ruleset for_eight_are = (rules, eight_same)
+use Rattle.std.specs.Ordering.{ordering_then}
 
 -- eight bytes that are all the same
 abbrev copies : ℕ → ℕ → Text
@@ -66,7 +55,7 @@ module _ (s : Text) (at p q : ℕ) (l : at + p + q ≤ length s) where
   part i w x h = rw (part_long i w h, part_is i w)
 
   module _ (a b : Text) where
-    whole : code_order s at p q a b ≡ or_else (order_of (take p (drop at s)) (pad p a)) (order_of (take q (drop (at + p) s)) (pad q b))
+    whole : code_order s at p q a b ≡ ordering_then (order_of (take p (drop at s)) (pad p a)) (order_of (take q (drop (at + p) s)) (pad q b))
     unfolding code_order
     whole =
         let d : drop p (drop at s) ≡ drop (at + p) s = drop-drop p at s in
@@ -74,24 +63,24 @@ module _ (s : Text) (at p q : ℕ) (l : at + p + q ≤ length s) where
         rw (take-add p q (drop at s), d) (order_append (take p (drop at s)) (pad p a) (take q (drop (at + p) s)) (pad q b) n)
 
     -- how the first stands
-    module _ (o : Order) (e : o ≡ order_of (take (at + p - at) (drop at s)) (pad (length (take (at + p - at) (drop at s))) a)) where
-      first_is : (z : Order) → o ≡ z → code_order s at p q a b ≡ or_else z (order_of (take q (drop (at + p) s)) (pad q b))
-      first_is z h = whole ∙ ap (λ (y : Order). or_else y (order_of (take q (drop (at + p) s)) (pad q b))) (sym (e ∙ part at p a (omega arith)) ∙ h)
+    module _ (o : Ordering) (e : o ≡ order_of (take (at + p - at) (drop at s)) (pad (length (take (at + p - at) (drop at s))) a)) where
+      first_is : (z : Ordering) → o ≡ z → code_order s at p q a b ≡ ordering_then z (order_of (take q (drop (at + p) s)) (pad q b))
+      first_is z h = whole ∙ ap (λ (y : Ordering). ordering_then y (order_of (take q (drop (at + p) s)) (pad q b))) (sym (e ∙ part at p a (omega arith)) ∙ h)
 
       pub order_less : o ≡ Less → Less ≡ code_order s at p q a b
       order_less h = sym (first_is Less h)
 
-      pub order_more : o ≡ More → More ≡ code_order s at p q a b
-      order_more h = sym (first_is More h)
+      pub order_more : o ≡ Greater → Greater ≡ code_order s at p q a b
+      order_more h = sym (first_is Greater h)
 
-      pub order_same : (r : Order) → o ≡ Same → r ≡ order_of (take (at + p + q - (at + p)) (drop (at + p) s)) (pad (length (take (at + p + q - (at + p)) (drop (at + p) s))) b) → r ≡ code_order s at p q a b
-      order_same r h f = f ∙ part (at + p) q b l ∙ sym (first_is Same h)
+      pub order_same : (r : Ordering) → o ≡ Equal → r ≡ order_of (take (at + p + q - (at + p)) (drop (at + p) s)) (pad (length (take (at + p + q - (at + p)) (drop (at + p) s))) b) → r ≡ code_order s at p q a b
+      order_same r h f = f ∙ part (at + p) q b l ∙ sym (first_is Equal h)
 
     -- whether both are the same
-    pairs : (o z : Order) → is_same (or_else o z) ≡ (is_same o && is_same z)
+    pairs : (o z : Ordering) → is_same (ordering_then o z) ≡ (is_same o && is_same z)
     pairs Less z = refl
-    pairs Same z = refl
-    pairs More z = refl
+    pairs Equal z = refl
+    pairs Greater z = refl
 
     same_both : is_same (code_order s at p q a b) ≡ (is_same (order_of (take p (drop at s)) (pad p a)) && is_same (order_of (take q (drop (at + p) s)) (pad q b)))
     same_both = ap is_same whole ∙ pairs (order_of (take p (drop at s)) (pad p a)) (order_of (take q (drop (at + p) s)) (pad q b))

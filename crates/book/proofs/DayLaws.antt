@@ -1,11 +1,11 @@
--- In force: what each need of `digit`, `eight_digits`, `end_number`, `lasts`, `in_force`, `standing` and `look_up` asks.
+-- In force: what each need of `eight_digits`, `end_number`, `in_force`, `standing` and `look_up` asks.
 -- Assumes nothing.
 use mathlib.Core.Path.{◌≡◌, refl, sym, ap, ◌∙◌}
-use mathlib.Core.Bool.{Bool, true, false, not, ◌&&◌, and-true, and-false}
+use mathlib.Core.Bool.{Bool, true, false, not, ◌&&◌}
 use mathlib.Core.List.{◌++◌}
 use Prim.Native.Nat.{ℕ, ◌+◌, ◌-◌, ◌*◌, ◌≤◌, ◌<◌}
 use native.Mathlib.Omega.{arith}
-use borrow.Author.Tests.{eq-eqb, ne_eqb, le-leb, lt-leb, lt-ltb, le-ltb}
+use borrow.Author.Tests.{eq-eqb, ne_eqb, le-leb, lt-leb}
 use borrow.Author.Rules.{rules}
 use lib.Dec.{ltb, leb}
 use lib.ListN.{length, get_or, take, drop, length-drop}
@@ -15,8 +15,6 @@ use Rattle.house.proofs.Suffix.{eight}
 use Rattle.book.specs.declared.Layout.{Layout}
 use Rattle.book.specs.declared.Position.{Position}
 use Rattle.book.specs.declared.Sections.{Sections}
-use Rattle.book.specs.declared.Found.{Found}
-use Rattle.book.specs.declared.Found.TheVariants.{At, Absent}
 use Rattle.book.specs.declared.Standing.{Standing}
 use Rattle.book.specs.declared.Standing.TheVariants.{Unknown, OutOfForce, InForce}
 use Rattle.book.specs.Book.{start_width, code_width, body_width, code_text, entry_of, dates_of, start_of, end_of, started_by, in_force, ended_before}
@@ -25,12 +23,7 @@ use Rattle.book.specs.Inside.{is_byte, found_by, in_force_until, said_by, Widths
 use Rattle.book.proofs.WidthLaws.{body_parts}
 use Rattle.book.proofs.CodeLaws.{eight_nines}
 use Rattle.book.proofs.SearchLaws.{find_kind, find_widths, find_by}
-
--- digit
-pub digit_none : (b : ℕ) → b < 48 → 0 ≡ b - 48
-digit_none b h = omega arith
-
-pub ruleset for_digit = (rules, digit_none)
+use Rattle.std.proofs.Common.{Option, Some, None}
 
 -- eight_digits
 pub eight_is : (s : Text) (at : ℕ) → at + 8 ≤ length s → (a b c d e f g h : ℕ) → a ≡ get_or s at 0 - 48 → b ≡ get_or s (at + 1) 0 - 48 → c ≡ get_or s (at + 2) 0 - 48 → d ≡ get_or s (at + 3) 0 - 48
@@ -47,16 +40,6 @@ module _ (s : Text) (at : ℕ) (l : at + 8 ≤ length s) (r : Bool) (e : r ≡ a
   end_open h = eight_nines s at l (sym e ∙ h)
 
 pub ruleset for_end_number = (rules, end_open)
-
--- lasts
-module _ (n e d u : ℕ) (x : e ≡ n) where
-  pub lasts_not : e < u → false ≡ leb d n && not (ltb n u)
-  lasts_not h = rw (← x, lt-ltb e u h, and-false (leb d e))
-
-  pub lasts_on : u ≤ e → leb d e ≡ leb d n && not (ltb n u)
-  lasts_on h = rw (← x, le-ltb e u h) (sym (and-true (leb d e)))
-
-pub ruleset for_lasts = (rules, lasts_not, lasts_on)
 
 -- in_force
 module _ (s : Text) (k : ℕ) (w : Layout) (wide : WidthsAre k w) (at : ℕ) (l : at + w.entry ≤ length s) where
@@ -141,18 +124,18 @@ module _ (s : Text) (k : ℕ) (w : Layout) (wide : WidthsAre k w) (at : ℕ) (l 
 pub ruleset for_in_force = (rules, force_wide, force_room, force_in, force_other, force_before, force_start, force_not_yet, force_vaccine)
 
 -- standing
-module _ (s : Text) (k : ℕ) (w : Layout) (end : ℕ) (a b : Text) (d u : ℕ) (f : Found) (e : FoundIs s k (found_by s k w end a b) f) where
-  pub said_no : f ≡ Absent → Unknown ≡ said_by s k w end a b d u
+module _ (s : Text) (k : ℕ) (w : Layout) (end : ℕ) (a b : Text) (d u : ℕ) (f : Option Position) (e : FoundIs s k (found_by s k w end a b) f) where
+  pub said_no : f ≡ None → Unknown ≡ said_by s k w end a b d u
   unfolding said_by
   said_no h = rw (← e.exact, h)
 
-  module _ (p : Position) (h : f ≡ At p) where
+  module _ (p : Position) (h : f ≡ Some p) where
     pub said_lies : WidthsAre k w → p.at + w.entry ≤ length s
     said_lies g =
         let l : p.at + 1 + body_width k ≤ length s = rw h at e.lies in
         omega (arith, g.entry_is)
 
-    by : found_by s k w end a b ≡ At p
+    by : found_by s k w end a b ≡ Some p
     by = sym e.exact ∙ h
 
     module _ (r : Bool) (i : r ≡ in_force_until d u (entry_of k (drop (p.at + 1) s))) where
@@ -167,9 +150,9 @@ module _ (s : Text) (k : ℕ) (w : Layout) (end : ℕ) (a b : Text) (d u : ℕ) 
 pub ruleset for_standing = (rules, said_no, said_lies, said_in, said_out)
 
 -- look_up: to ask both of what was found is to ask each
-both_such : (s : Text) (d u k : ℕ) (f : Found) → is_such_at s (in_force_until d u) k f ≡ is_such_at s (in_force d) k f && not (is_such_at s (ended_before u) k f)
-both_such s d u k Absent = refl
-both_such s d u k (At p) = refl
+both_such : (s : Text) (d u k : ℕ) (f : Option Position) → is_such_at s (in_force_until d u) k f ≡ is_such_at s (in_force d) k f && not (is_such_at s (ended_before u) k f)
+both_such s d u k None = refl
+both_such s d u k (Some p) = refl
 
 module _ (s : Text) (q : Sections) (k : ℕ) (a b : Text) (d u : ℕ) where
   pub look_no : 8 < k → Unknown ≡ standing_by s q k (code_text k a b) d u

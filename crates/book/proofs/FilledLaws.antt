@@ -1,12 +1,9 @@
--- Bytes at a place, one by one: what each need of `few_blanks`, `blanks`, `four_same`, `few_same` and `stands_at` asks, and a text with
--- blanks after it.
+-- Bytes at a place, one by one: what each need of `blanks` and `stands_at` asks, and a text with blanks after it.
 -- Assumes nothing.
 use mathlib.Core.Path.{◌≡◌, refl, sym, ap, ◌∙◌}
-use mathlib.Core.Logic.{◌⊎◌, inl, inr}
-use mathlib.Core.Bool.{Bool, true, false, ◌&&◌}
+use mathlib.Core.Bool.{Bool, true, false}
 use mathlib.Core.List.{[], ◌∷◌}
 use Prim.Native.Nat.{ℕ, zero, suc, ◌+◌, ◌-◌, ◌≤◌, ◌<◌}
-use native.Mathlib.Nat.{add-zero}
 use native.Mathlib.Omega.{arith}
 use borrow.Author.Tests.{eq-eqb, eqb-true}
 use borrow.Author.Rules.{rules}
@@ -32,36 +29,16 @@ at_all : (v : ℕ) (t : Text) → ((k : ℕ) → k < length t → get_or t k 0 �
 at_all v [] f = refl
 at_all v (b ∷ t) f = rw (eq-eqb b v (f 0 (omega arith))) (at_all v t (λ k l. f (suc k) (omega arith)))
 
--- few_blanks
-module _ (s : Text) (at : ℕ) where
-  pub blank_start : Blank s at at
-  blank_start j l m = absurd (omega arith)
-
-  module _ (end i : ℕ) (inv : Blank s at i) where
-    pub blank_end : end ≤ i → Tells (Blank s at end) true
-    blank_end h = record { holds = λ e j l m. inv j l (omega arith); fails = λ e f. clash (cc e) }
-
-    module _ (l : at ≤ i) where
-      pub blank_on : get_or s i 0 ≡ 32 → Blank s at (i + 1)
-      blank_on e j k m = go (three j i)
-        where
-          go : Three j i → get_or s j 0 ≡ 32
-          go (lt h) = inv j k h
-          go (eq h) = rw h e
-          go (gt h) = absurd (omega arith)
-
-      pub blank_not : i < end → (get_or s i 0 ≡ 32 → ⊥) → Tells (Blank s at end) false
-      blank_not h n = record { holds = λ e. clash (cc e); fails = λ e f. n (f i l h) }
-
-pub ruleset for_few_blanks = (rules, blank_start, blank_end, blank_on, blank_not)
-
 -- blanks
-module _ (s : Text) (at end i j : ℕ) (r : Bool) (e : r ≡ all (is_byte 32) (take 8 (drop j s))) (n : end ≤ length s) (z : 8 ≤ end - at) (q : j ≤ end - 8) where
+pub blank_start : (s : Text) (at : ℕ) → Blank s at at
+blank_start s at j l m = absurd (omega arith)
+
+module _ (s : Text) (at j : ℕ) (r : Bool) (e : r ≡ all (is_byte 32) (take 8 (drop j s))) (z : j + 8 ≤ length s) where
   eight_long : length (take 8 (drop j s)) ≡ 8
   eight_long = length-take-le 8 (drop j s) (omega (arith, length-drop j s))
 
-  pub eight_on : Blank s at i → j ≤ i → r ≡ true → Blank s at (j + 8)
-  eight_on inv g h m k o = go (three m i)
+  pub eight_on : (i : ℕ) → Blank s at i → j ≤ i → r ≡ true → Blank s at (j + 8)
+  eight_on i inv g h m k o = go (three m i)
     where
       past : i ≤ m → get_or s m 0 ≡ 32
       past p =
@@ -74,80 +51,33 @@ module _ (s : Text) (at end i j : ℕ) (r : Bool) (e : r ≡ all (is_byte 32) (t
       go (eq p) = past (omega arith)
       go (gt p) = past (omega arith)
 
-  pub eight_not : at ≤ i → (j ≡ i) ⊎ (j ≡ end - 8) → r ≡ false → Tells (Blank s at end) false
-  eight_not l c h =
+  pub eight_not : (end : ℕ) → at ≤ j → j + 8 ≤ end → r ≡ false → Tells (Blank s at end) false
+  eight_not end g l h =
       record {
         holds = λ u. clash (cc u);
-        fails = λ u f. clash (cc (e, h, at_all 32 (take 8 (drop j s)) (λ k o. byte_of s j 8 k (omega (arith, eight_long)) ∙ f (j + k) (omega (arith, from c)) (omega (arith, eight_long)))));
+        fails = λ u f. clash (cc (e, h, at_all 32 (take 8 (drop j s)) (λ k o. byte_of s j 8 k (omega (arith, eight_long)) ∙ f (j + k) (omega arith) (omega (arith, eight_long)))));
       }
-    where
-      from : (j ≡ i) ⊎ (j ≡ end - 8) → at ≤ j
-      from (inl p) = omega arith
-      from (inr p) = omega arith
 
-pub eight_turn : (at end i j : ℕ) → i < end → 8 ≤ end - at → (j ≡ i) ⊎ (j ≡ end - 8) → end - (j + 8) < end - i
-eight_turn at end i j h z (inl p) = omega arith
-eight_turn at end i j h z (inr p) = omega arith
+  pub eight_last : (end i : ℕ) → Blank s at i → j ≤ i → at ≤ j → j + 8 ≡ end → Tells (Blank s at end) r
+  eight_last end i inv g l h =
+      record {
+        holds = λ u m k o. eight_on i inv g u m k (omega arith);
+        fails = λ u. (eight_not end l (omega arith) u).fails refl;
+      }
 
-pub eight_from : (at end i j : ℕ) → at ≤ i → 8 ≤ end - at → (j ≡ i) ⊎ (j ≡ end - 8) → at ≤ j + 8
-eight_from at end i j l z (inl p) = omega arith
-eight_from at end i j l z (inr p) = omega arith
+pub ruleset for_blanks = (rules, blank_start, eight_on, eight_not, eight_last)
 
-pub ruleset for_blanks = (rules, blank_start, blank_end, eight_on, eight_not, eight_turn, eight_from)
-
--- four_same
-by_four : (P : ℕ → Type 0) → P 0 → P 1 → P 2 → P 3 → (k : ℕ) → k < 4 → P k
-by_four P a b c d zero l = a
-by_four P a b c d (suc zero) l = b
-by_four P a b c d (suc (suc zero)) l = c
-by_four P a b c d (suc (suc (suc zero))) l = d
-by_four P a b c d (suc (suc (suc (suc n)))) l = absurd (omega arith)
-
-module _ (s : Text) (at : ℕ) (t : Text) (i : ℕ) where
-  abbrev pair : ℕ → Bool
-  pair k = eqb (get_or s (at + k) 0) (get_or t (i + k) 0)
-
-  pub four_tells : Tells (FourSame s at t i) (eqb (get_or s at 0) (get_or t i 0) && pair 1 && pair 2 && pair 3)
-  four_tells = record { holds = says; fails = λ h f. clash (cc (h, all_four f)) }
-    where
-      first : eqb (get_or s (at + 0) 0) (get_or t (i + 0) 0) ≡ eqb (get_or s at 0) (get_or t i 0)
-      first = rw (add-zero at, add-zero i)
-
-      says : (eqb (get_or s at 0) (get_or t i 0) && pair 1 && pair 2 && pair 3) ≡ true → FourSame s at t i
-      says h =
-          let p = both (eqb (get_or s at 0) (get_or t i 0) && pair 1 && pair 2) (pair 3) h in
-          let q = both (eqb (get_or s at 0) (get_or t i 0) && pair 1) (pair 2) p.0 in
-          let r = both (eqb (get_or s at 0) (get_or t i 0)) (pair 1) q.0 in
-          by_four (λ (k : ℕ). get_or s (at + k) 0 ≡ get_or t (i + k) 0) (eqb-true _ _ (first ∙ r.0)) (eqb-true _ _ r.1) (eqb-true _ _ q.1) (eqb-true _ _ p.1)
-
-      all_four : FourSame s at t i → (eqb (get_or s at 0) (get_or t i 0) && pair 1 && pair 2 && pair 3) ≡ true
-      all_four f = rw (← first, eq-eqb _ _ (f 0 (omega arith)), eq-eqb _ _ (f 1 (omega arith)), eq-eqb _ _ (f 2 (omega arith)), eq-eqb _ _ (f 3 (omega arith)))
-
-pub ruleset for_four_same = (rules, four_tells)
-
--- few_same
-module _ (s : Text) (at : ℕ) (t : Text) where
-  pub stands_start : Stands s at t 0
-  stands_start j l = absurd (omega arith)
-
-  module _ (i : ℕ) (inv : Stands s at t i) where
-    pub stands_end : length t ≤ i → Tells (Stands s at t (length t)) true
-    stands_end h = record { holds = λ e j l. inv j (omega arith); fails = λ e f. clash (cc e) }
-
-    pub stands_on : get_or s (at + i) 0 ≡ get_or t i 0 → Stands s at t (i + 1)
-    stands_on e j l = go (three j i)
-      where
-        go : Three j i → get_or s (at + j) 0 ≡ get_or t j 0
-        go (lt h) = inv j h
-        go (eq h) = rw h e
-        go (gt h) = absurd (omega arith)
-
-    pub stands_not : i < length t → (get_or s (at + i) 0 ≡ get_or t i 0 → ⊥) → Tells (Stands s at t (length t)) false
-    stands_not h n = record { holds = λ e. clash (cc e); fails = λ e f. n (f i h) }
-
-pub ruleset for_few_same = (rules, stands_start, stands_end, stands_on, stands_not)
+-- a part of a text is another text, padded
+equal : (x y : Text) → length x ≡ length y → ((i : ℕ) → i < length x → get_or x i 0 ≡ get_or y i 0) → x ≡ y
+equal [] [] e f = refl
+equal [] (b ∷ y) e f = absurd (omega arith)
+equal (a ∷ x) [] e f = absurd (omega arith)
+equal (a ∷ x) (b ∷ y) e f = ap (λ (c : ℕ). c ∷ x) (f 0 (omega arith)) ∙ ap (λ (t : Text). b ∷ t) (equal x y (omega arith) (λ i l. f (suc i) (omega arith)))
 
 -- stands_at
+pub stands_start : (s : Text) (at : ℕ) (t : Text) → Stands s at t 0
+stands_start s at t j l = absurd (omega arith)
+
 module _ (s : Text) (at : ℕ) (t : Text) (j : ℕ) (r : Bool) (e : Tells (FourSame s (at + j) t j) r) where
   pub four_on : (i : ℕ) → Stands s at t i → j ≤ i → r ≡ true → Stands s at t (j + 4)
   four_on i inv g h m o = go (three m i)
@@ -163,25 +93,16 @@ module _ (s : Text) (at : ℕ) (t : Text) (j : ℕ) (r : Bool) (e : Tells (FourS
       go (eq p) = past (omega arith)
       go (gt p) = past (omega arith)
 
-  pub four_not : 4 ≤ length t → j ≤ length t - 4 → r ≡ false → Tells (Stands s at t (length t)) false
-  four_not z l h =
-      record {
-        holds = λ u. clash (cc u);
-        fails = λ u f. e.fails h (λ k o. let c : at + j + k ≡ at + (j + k) = omega arith in ap (λ (x : ℕ). get_or s x 0) c ∙ f (j + k) (omega arith));
-      }
+  four_fails : j + 4 ≤ length t → r ≡ false → Stands s at t (length t) → ⊥
+  four_fails l h f = e.fails h (λ k o. let c : at + j + k ≡ at + (j + k) = omega arith in ap (λ (x : ℕ). get_or s x 0) c ∙ f (j + k) (omega arith))
 
-pub four_turn : (n i j : ℕ) → i < n → 4 ≤ n → (j ≡ i) ⊎ (j ≡ n - 4) → n - (j + 4) < n - i
-four_turn n i j h z (inl p) = omega arith
-four_turn n i j h z (inr p) = omega arith
+  pub four_not : j + 4 ≤ length t → r ≡ false → Tells (Stands s at t (length t)) false
+  four_not l h = record { holds = λ u. clash (cc u); fails = λ u f. four_fails l h f }
 
-pub ruleset for_stands_at = (rules, stands_start, stands_end, four_on, four_not, four_turn)
+  pub four_last : (i : ℕ) → Stands s at t i → j ≤ i → j + 4 ≡ length t → Tells (Stands s at t (length t)) r
+  four_last i inv g l = record { holds = λ u m o. four_on i inv g u m (omega arith); fails = λ u f. four_fails (omega arith) u f }
 
--- a part of a text is another text, padded
-equal : (x y : Text) → length x ≡ length y → ((i : ℕ) → i < length x → get_or x i 0 ≡ get_or y i 0) → x ≡ y
-equal [] [] e f = refl
-equal [] (b ∷ y) e f = absurd (omega arith)
-equal (a ∷ x) [] e f = absurd (omega arith)
-equal (a ∷ x) (b ∷ y) e f = ap (λ (c : ℕ). c ∷ x) (f 0 (omega arith)) ∙ ap (λ (t : Text). b ∷ t) (equal x y (omega arith) (λ i l. f (suc i) (omega arith)))
+pub ruleset for_stands_at = (rules, stands_start, four_on, four_not, four_last)
 
 module _ (s : Text) (at w : ℕ) (t : Text) (l : at + w ≤ length s) (f : length t ≤ w) where
   part_length : length (take w (drop at s)) ≡ w

@@ -11,13 +11,12 @@ use lib.Seq.{length-take-le}
 use Rattle.house.specs.Text.{Text, digits, is_padded}
 use Rattle.dates.specs.Dates.{is_end, dated_of}
 use Rattle.dates.specs.declared.Date.{Date}
-use Rattle.dates.specs.declared.Dated.{Dated}
-use Rattle.dates.specs.declared.Dated.TheVariants.{Day, NoDate}
 use Rattle.house.proofs.Suffix.{drop_here, drop_past, rest}
 use Rattle.dates.proofs.DateLaws.{dated_true, dated_false}
 use Rattle.book.specs.declared.Read.TheVariants as read
 use Rattle.book.specs.Book.{first_width, start_width, code_width, body_width, first_form, second_form, code_form, start_form, dates_form, body_form, is_whole, read_at}
 use Rattle.book.proofs.WidthLaws.{code_parts, body_parts}
+use Rattle.std.proofs.Common.{Option, Some, None}
 
 -- the reader
 module _ (at : ℕ) (s : Text) where
@@ -68,12 +67,12 @@ module _ (k : ℕ) (t : Text) where
   unfolding second_form
   second_free n m = simp (ne_eqb _ _ n, ne_eqb _ _ m)
 
-  module _ (d : Dated) (e : k ≡ 1) (h : d ≡ dated_of t) where
-    pub start_day : (x : Date) → d ≡ Day x → true ≡ start_form k t
+  module _ (d : Option Date) (e : k ≡ 1) (h : d ≡ dated_of t) where
+    pub start_day : (x : Date) → d ≡ Some x → true ≡ start_form k t
     unfolding start_form
     start_day x g = rw e (sym (dated_true t x (sym h ∙ g)))
 
-    pub start_not : d ≡ NoDate → false ≡ start_form k t
+    pub start_not : d ≡ None → false ≡ start_form k t
     unfolding start_form
     start_not g = rw e (sym (dated_false t (sym h ∙ g)))
 

@@ -1,5 +1,4 @@
--- What each need of the hash table asks: `hash`, `hash_of`, `last_byte`, `hashed`, `put_byte`, `hash_entry`, `hash_entries`, `hash_kinds`,
--- `copy_book` and `hash_book`.
+-- What each need of the hash table asks: `hash`, `hashed`, `put_byte`, `hash_entry`, `hash_entries`, `hash_kinds` and `hash_book`.
 -- Assumes nothing.
 use mathlib.Core.Path.{◌≡◌, refl, sym, ap, ◌∙◌}
 use mathlib.Core.Bool.{true}
@@ -14,7 +13,7 @@ use borrow.Rule.Slice.PartMut.{put_mid}
 use lib.ListN.{length, take, drop, get_or, set, length-append, get_or-eq_default}
 use lib.Seq.{take-append_seam, drop-append_seam, take_all, take-take, drop-drop}
 use Rattle.house.specs.Text.{Text}
-use Rattle.house.proofs.Suffix.{drop_here, drop_past, rest, set_past, copy_more}
+use Rattle.house.proofs.Suffix.{drop_here, drop_past, rest, set_past}
 use Rattle.book.specs.declared.Sections.{Sections}
 use Rattle.book.specs.declared.Layout.{Layout}
 use Rattle.book.specs.Book.{first_width, second_width, code_width, body_width, filled, code_text}
@@ -44,17 +43,9 @@ hash_low n = mod-lt n (omega arith)
 
 pub ruleset for_hash = (rules, hash_start, hash_more, hash_end, hash_low)
 
--- hash_of
-pub hash_both : (k a b u v w : ℕ) → u ≡ b → v ≡ a → w ≡ k → (u * 1021 + v + w) % 32768 ≡ (b * 1021 + a + k) % 32768
-hash_both k a b u v w eu ev ew = rw (eu, ev, ew)
-
-pub ruleset for_hash_of = (rules, hash_both, hash_low)
-
--- last_byte
+-- a byte past the end
 pub byte_past : (t : Text) (at : ℕ) → length t ≤ at → 0 ≡ get_or t at 0
 byte_past t at l = sym (get_or-eq_default t 0 l)
-
-pub ruleset for_last_byte = (rules, byte_past)
 
 -- hashed: padding counts 0
 hash_blanks : (w : ℕ) → hash_of (filled w []) ≡ 0
@@ -163,24 +154,19 @@ module _ (s : Text) (q : Sections) (t₀ : Text) where
   unfolding hash_kinds
   kinds_start = refl
 
-  pub kinds_on : (k : ℕ) (t u : Text) → t ≡ hash_kinds s q k t₀ → u ≡ hash_entries s (k + 1) (section_start q (k + 1)) (count_in s q (k + 1)) t → u ≡ hash_kinds s q (k + 1) t₀
+  pub kinds_on : (k : ℕ) (t u : Text) → 1 ≤ k → t ≡ hash_kinds s q (k - 1) t₀ → u ≡ hash_entries s k (section_start q k) (count_in s q k) t → u ≡ hash_kinds s q (k + 1 - 1) t₀
   unfolding hash_kinds
-  kinds_on k t u e f = rw (add-one, ← e) (rw add-one at f)
+  kinds_on zero t u h e f = absurd (omega arith)
+  kinds_on (suc k) t u h e f =
+      let d : suc k + 1 - 1 ≡ suc k = omega arith in
+      let m : suc k - 1 ≡ k = omega arith in
+      let g : t ≡ hash_kinds s q k t₀ = e ∙ ap (λ (j : ℕ). hash_kinds s q j t₀) m in
+      rw (d, ← g) f
 
-  pub kinds_end : (k : ℕ) (t : Text) → t ≡ hash_kinds s q k t₀ → k ≤ 8 → 8 ≤ k → t ≡ hash_kinds s q 8 t₀
-  kinds_end k t e l m = let d : k ≡ 8 = omega arith in rw d at e
+  pub kinds_end : (k : ℕ) (t : Text) → t ≡ hash_kinds s q (k - 1) t₀ → k ≤ 9 → 9 ≤ k → t ≡ hash_kinds s q 8 t₀
+  kinds_end k t e l m = let d : k ≡ 9 = omega arith in rw d at e
 
 pub ruleset for_hash_kinds = (rules, kinds_start, kinds_on, kinds_end)
-
--- copy_book
-module _ (s room old : Text) (i : ℕ) (e : room ≡ take i s ++ drop i old) where
-  pub copy_on : i < length s → length s ≤ length old → set room i (get_or s i 0) ≡ take (i + 1) s ++ drop (i + 1) old
-  copy_on h l = rw e (copy_more s old i h (omega arith))
-
-  pub copy_end : i ≤ length s → length s ≤ i → room ≡ s ++ drop (length s) old
-  copy_end h k = let d : i ≡ length s = omega arith in e ∙ rw d (ap (λ (t : Text). t ++ drop (length s) old) (take_all (length s) s (omega arith)))
-
-pub ruleset for_copy_book = (rules, copy_on, copy_end)
 
 -- hash_book
 module _ (s : Text) (q : Sections) (room : Text) where

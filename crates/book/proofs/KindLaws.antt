@@ -10,7 +10,7 @@ use native.Mathlib.Omega.{arith}
 use lib.ListN.{length, take, drop, length-drop}
 use lib.Seq.{drop-drop, take-append-le, drop-append-le}
 use Rattle.house.specs.Text.{Text, any, order_of}
-use Rattle.house.specs.declared.Order.TheVariants.{Less}
+use Rattle.std.specs.declared.cmp.Ordering.TheVariants.{Less}
 use Rattle.house.proofs.Small.{Three, lt, eq, gt, three}
 use Rattle.house.proofs.Facts.{of_true}
 use Rattle.house.proofs.OrderAlgebra.{less_trans}

@@ -7,19 +7,18 @@ use Rattle.house.specs.Text.{Text}
 use Rattle.book.specs.declared.Position.{Position}
 use Rattle.book.specs.declared.Read.{Read}
 use Rattle.book.specs.declared.Sections.{Sections}
-use Rattle.book.specs.declared.Validity.{Validity}
-use Rattle.book.specs.declared.Found.{Found}
 use Rattle.book.specs.declared.Standing.{Standing}
 use Rattle.book.specs.Book.{code_text, read_at, valid_of}
 use Rattle.book.specs.LookUp.{found_in, standing_by, with_hash_table}
+use Rattle.std.proofs.Common.{Option}
 
 pub read_one : (p : Position) (s : Text) (x y : Read) → x ≡ read_at p.at (drop p.at s) → y ≡ read_at p.at (drop p.at s) → x ≡ y
 read_one p s x y e f = cc
 
-pub valid_one : (s : Text) (x y : Validity) → x ≡ valid_of s → y ≡ valid_of s → x ≡ y
+pub valid_one : (s : Text) (x y : Option Sections) → x ≡ valid_of s → y ≡ valid_of s → x ≡ y
 valid_one s x y e f = cc
 
-pub find_one : (s : Text) (q : Sections) (k : ℕ) (a b : Text) (x y : Found) → x ≡ found_in s q k (code_text k a b) → y ≡ found_in s q k (code_text k a b) → x ≡ y
+pub find_one : (s : Text) (q : Sections) (k : ℕ) (a b : Text) (x y : Option Position) → x ≡ found_in s q k (code_text k a b) → y ≡ found_in s q k (code_text k a b) → x ≡ y
 find_one s q k a b x y e f = cc
 
 pub look_up_one : (s : Text) (q : Sections) (k : ℕ) (a b : Text) (d u : ℕ) (x y : Standing) → x ≡ standing_by s q k (code_text k a b) d u → y ≡ standing_by s q k (code_text k a b) d u → x ≡ y

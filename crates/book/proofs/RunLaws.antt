@@ -17,7 +17,6 @@ use Rattle.house.proofs.Suffix.{drop_here, drop_past}
 use Rattle.book.specs.declared.Position.{Position}
 use Rattle.book.specs.declared.Read.{Read}
 use Rattle.book.specs.declared.Read.TheVariants as read
-use Rattle.book.specs.declared.Validity.TheVariants as validity
 use Rattle.book.specs.Book.{code_width, body_width, entry_of, entries, code_of, body_form, is_whole, read_at, bytes_before, sections_of, valid_of}
 use Rattle.book.specs.Inside.{sound_from, body_follows, step_len, RunIs}
 use Rattle.book.proofs.WidthLaws.{body_parts}
@@ -25,6 +24,7 @@ use Rattle.book.proofs.EntryLaws.{unroll, form_is, sound_none, bytes_none, floor
 use Rattle.book.proofs.OrderlyLaws.{book_is}
 use Rattle.book.proofs.FormLaws.{front, code_in}
 use Rattle.book.proofs.ReadLaws.{is_none, unread, read_head, read_whole, read_next, read_body, read_in, read_part, read_long}
+use Rattle.std.proofs.Common.{Some, None}
 
 -- body_follows
 module _ (k : ℕ) (c t : Text) (f : Bool) (v : f ≡ body_form k t) where
@@ -165,7 +165,7 @@ upto_on s at k z inv r e l =
     go h j o (gt m) n = absurd (omega arith)
 
 module _ (s : Text) where
-  pub valid_long : 262144 < length s → validity.Malformed ≡ valid_of s
+  pub valid_long : 262144 < length s → None ≡ valid_of s
   unfolding valid_of
   valid_long h = rw (book_is s, lt-leb (length s) 262144 h)
 
@@ -173,7 +173,7 @@ module _ (s : Text) where
     nine : k ≡ 9
     nine = omega arith
 
-    pub valid_not : (at ≡ length s → ⊥) → at ≤ length s → validity.Malformed ≡ valid_of s
+    pub valid_not : (at ≡ length s → ⊥) → at ≤ length s → None ≡ valid_of s
     unfolding valid_of
     valid_not n m =
         let o : at < length s = omega arith in
@@ -197,7 +197,7 @@ module _ (s : Text) where
       at_is j m o = inv.settled sounds j (omega arith) o
 
       pub valid_is :
-          validity.Valid (record { antigens = get_or z 2 0; reasons = get_or z 3 0; manufacturers = get_or z 4 0; dosage_types = get_or z 5 0; reasons_not = get_or z 6 0; with_reason = get_or z 7 0; with_antigen = get_or z 8 0; end = at }) ≡ valid_of s
+          Some (record { antigens = get_or z 2 0; reasons = get_or z 3 0; manufacturers = get_or z 4 0; dosage_types = get_or z 5 0; reasons_not = get_or z 6 0; with_reason = get_or z 7 0; with_antigen = get_or z 8 0; end = at }) ≡ valid_of s
       unfolding valid_of sections_of
       valid_is =
           rw (book_is s, le-leb (length s) 262144 h, sounds)

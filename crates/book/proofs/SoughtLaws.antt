@@ -12,20 +12,20 @@ use lib.ListN.{take, drop}
 use lib.Seq.{drop-drop}
 use Rattle.house.specs.Text.{Text, order_of, same}
 use Rattle.house.specs.Search.{binary_search}
-use Rattle.house.specs.declared.Order.{Order}
-use Rattle.house.specs.declared.Order.TheVariants.{Less, Same, More}
+use Rattle.std.specs.declared.cmp.Ordering.{Ordering}
+use Rattle.std.specs.declared.cmp.Ordering.TheVariants.{Less, Equal, Greater}
 use Rattle.house.proofs.Small.{clash, Three, lt, eq, gt, three}
 use Rattle.house.proofs.OrderAlgebra.{less_trans, same_eq}
 use Rattle.house.proofs.Decisions.{is_same_lem, same_true, not_same, order_refl}
 use Rattle.house.proofs.SearchLaws.{Decides, hit, miss, halve_decides}
 use Rattle.book.specs.declared.Sections.{Sections}
-use Rattle.book.specs.declared.Found.{Found}
-use Rattle.book.specs.declared.Found.TheVariants.{Absent}
 use Rattle.book.specs.Book.{code_width, body_width, Entry, entry_of, entries, code_of, is_entry, listed, listed_such}
 use Rattle.book.specs.LookUp.{section_start, count_in, place_of, code_at, order_at, found_at, named_in, searched_in, else_found, sought_in, is_there, is_such_at}
 use Rattle.book.proofs.EntryLaws.{code_is}
 use Rattle.book.proofs.KindLaws.{row_at, row_asc, any_miss, any_only, Only}
 use Rattle.book.proofs.SectionLaws.{Section}
+use Rattle.book.specs.declared.Position.{Position}
+use Rattle.std.proofs.Common.{Option, None}
 
 -- the entry that has a kind and a code, by tests
 module _ (k : ℕ) (x : Text) (e : Entry) where
@@ -64,26 +64,26 @@ module _ (s book : Text) (q : Sections) (k n : ℕ) (sec : Section s book q k n)
   unfolding order_at
   order_is i = ap (λ (t : Text). order_of t x) (code_of_lem i)
 
-  ascends : (i j : ℕ) → i < j → j < n → (order_at s k from x i ≡ Less) ⊎ (order_at s k from x j ≡ More)
+  ascends : (i j : ℕ) → i < j → j < n → (order_at s k from x i ≡ Less) ⊎ (order_at s k from x j ≡ Greater)
   ascends i j l m = go (order_of (code_of (row j)) x) refl
     where
       up : order_of (code_of (row i)) (code_of (row j)) ≡ Less
       up = row_asc k n [] (drop from s) sec.rows i j l m
 
-      go : (o : Order) → order_of (code_of (row j)) x ≡ o → (order_at s k from x i ≡ Less) ⊎ (order_at s k from x j ≡ More)
+      go : (o : Ordering) → order_of (code_of (row j)) x ≡ o → (order_at s k from x i ≡ Less) ⊎ (order_at s k from x j ≡ Greater)
       go Less e = inl (order_is i ∙ less_trans (code_of (row i)) (code_of (row j)) x up e)
-      go Same e = inl (order_is i ∙ ap (order_of (code_of (row i))) (sym (same_eq (code_of (row j)) x e)) ∙ up)
-      go More e = inr (order_is j ∙ e)
+      go Equal e = inl (order_is i ∙ ap (order_of (code_of (row i))) (sym (same_eq (code_of (row j)) x e)) ∙ up)
+      go Greater e = inr (order_is j ∙ e)
 
   only : (p : Entry → Bool) → Only k (λ (e : Entry). is_entry k x e && p e)
   only p e m = rw (not_kind k x e m)
 
   -- a look-up finds f: what that says is what the entries say
-  record Says (f : Found) : Type 0 where
+  record Says (f : Option Position) : Type 0 where
     known : is_there f ≡ listed (entries book) k x
     such : (p : Entry → Bool) → is_such_at s p k f ≡ listed_such (entries book) p k x
 
-  misses : ((i : ℕ) → i < n → order_at s k from x i ≡ Same → ⊥) → Says Absent
+  misses : ((i : ℕ) → i < n → order_at s k from x i ≡ Equal → ⊥) → Says None
   unfolding listed listed_such
   misses f =
       record {
@@ -94,7 +94,7 @@ module _ (s book : Text) (q : Sections) (k n : ℕ) (sec : Section s book q k n)
       other : (i : ℕ) → i < n → is_entry k x (row i) ≡ false
       other i l = not_code k x (row i) (λ e. f i l (order_is i ∙ ap (λ (t : Text). order_of t x) e ∙ order_refl x))
 
-  module _ (m : ℕ) (l : m < n) (o : order_at s k from x m ≡ Same) where
+  module _ (m : ℕ) (l : m < n) (o : order_at s k from x m ≡ Equal) where
     code : code_of (row m) ≡ x
     code = same_eq (code_of (row m)) x (sym (order_is m) ∙ o)
 
@@ -136,10 +136,10 @@ module _ (s book : Text) (q : Sections) (k n : ℕ) (sec : Section s book q k n)
 
   finds : Says (searched_in s k from n x)
   unfolding searched_in
-  finds = go (halve_decides (order_at s k from x) (found_at k from) Absent n ascends)
+  finds = go (halve_decides (order_at s k from x) (found_at k from) None n ascends)
     where
-      go : Decides (order_at s k from x) (found_at k from) Absent n (binary_search (order_at s k from x) (found_at k from) Absent n 0 n)
-          → Says (binary_search (order_at s k from x) (found_at k from) Absent n 0 n)
+      go : Decides (order_at s k from x) (found_at k from) None n (binary_search (order_at s k from x) (found_at k from) None n 0 n)
+          → Says (binary_search (order_at s k from x) (found_at k from) None n 0 n)
       go (hit m l o e) = rw e (hits m l o)
       go (miss f e) = rw e (misses f)
 
@@ -148,7 +148,7 @@ module _ (s book : Text) (q : Sections) (k n : ℕ) (sec : Section s book q k n)
   unfolding sought_in named_in found_at order_at
   says i = go (ltb i n) refl (same (code_at s k from i) x) refl
     where
-      go : (u : Bool) → ltb i n ≡ u → (v : Bool) → same (code_at s k from i) x ≡ v → Says (else_found (cond (u && v) (found_at k from i) Absent) (searched_in s k from n x))
+      go : (u : Bool) → ltb i n ≡ u → (v : Bool) → same (code_at s k from i) x ≡ v → Says (else_found (cond (u && v) (found_at k from i) None) (searched_in s k from n x))
       go true z true e = hits i (ltb-true i n z) (ap (λ (t : Text). order_of t x) (same_true (code_at s k from i) x e) ∙ order_refl x)
       go true z false e = finds
       go false z v e = finds

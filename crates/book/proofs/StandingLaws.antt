@@ -14,8 +14,6 @@ use Rattle.house.specs.Text.{Text, same, number}
 use Rattle.house.proofs.Decisions.{not_same}
 use Rattle.book.specs.declared.Position.{Position}
 use Rattle.book.specs.declared.Sections.{Sections}
-use Rattle.book.specs.declared.Found.{Found}
-use Rattle.book.specs.declared.Found.TheVariants.{At, Absent}
 use Rattle.book.specs.declared.Standing.{Standing}
 use Rattle.book.specs.declared.Standing.TheVariants.{Unknown, OutOfForce, InForce}
 use Rattle.book.specs.Book.{code_width, Entry, entry_of, entries, code_of, end_of, entry_form, book_of, Sound, is_entry, listed, listed_such, listed_on, listed_ended, standing_of, in_force, ended_before}
@@ -25,6 +23,7 @@ use Rattle.book.proofs.EntryLaws.{form_says}
 use Rattle.book.proofs.KindLaws.{none_sound}
 use Rattle.book.proofs.SectionLaws.{book_sound, section}
 use Rattle.book.proofs.SoughtLaws.{not_kind, sought_known, sought_such}
+use Rattle.std.proofs.Common.{Option, Some, None}
 
 -- no entry is of another kind than 1 to 8, or has a code of another width
 module _ (k : ℕ) (code : Text) where
@@ -49,11 +48,11 @@ module _ (s : Text) (q : Sections) (h : Sound (take q.end s) q) (k : ℕ) (code 
   book = take q.end s
 
   -- a look-up finds f: what that says is what the entries say
-  record Says (f : Found) : Type 0 where
+  record Says (f : Option Position) : Type 0 where
     known : is_there f ≡ listed (entries book) k code
     such : (p : Entry → Bool) → is_such_at s p k f ≡ listed_such (entries book) p k code
 
-  none : ((e : Entry) → entry_form e ≡ true → is_entry k code e ≡ false) → Says Absent
+  none : ((e : Entry) → entry_form e ≡ true → is_entry k code e ≡ false) → Says None
   unfolding listed listed_such
   none f =
       record {
@@ -66,7 +65,7 @@ module _ (s : Text) (q : Sections) (h : Sound (take q.end s) q) (k : ℕ) (code 
   says = go (leb k 8) (eqb (length code) (code_width k)) refl refl
     where
       go : (u v : Bool) → leb k 8 ≡ u → eqb (length code) (code_width k) ≡ v
-          → Says (cond (u && v) (sought_in s k (section_start q k) (count_in s q k) code (entry_hashed s q.end k code)) Absent)
+          → Says (cond (u && v) (sought_in s k (section_start q k) (count_in s q k) code (entry_hashed s q.end k code)) None)
       go true true p w =
           let z = section s q h k (leb-true k 8 p) in
           record { known = sought_known s book q k z.0 z.1 code (entry_hashed s q.end k code); such = sought_such s book q k z.0 z.1 code (entry_hashed s q.end k code) }
@@ -95,20 +94,20 @@ module _ (s : Text) (q : Sections) (h : Sound (take q.end s) q) (k : ℕ) (code 
 
 -- what an answer says
 module _ (s : Text) (q : Sections) (k : ℕ) (code : Text) where
-  module _ (f : Found) (e : f ≡ found_in s q k code) where
-    pub known_at : (p : Position) → f ≡ At p → true ≡ known_by s q k code
+  module _ (f : Option Position) (e : f ≡ found_in s q k code) where
+    pub known_at : (p : Position) → f ≡ Some p → true ≡ known_by s q k code
     unfolding known_by
     known_at p h = rw (← e, h)
 
-    pub known_not : f ≡ Absent → false ≡ known_by s q k code
+    pub known_not : f ≡ None → false ≡ known_by s q k code
     unfolding known_by
     known_not h = rw (← e, h)
 
   -- no end is before day 0
-  ended_none : (f : Found) → is_such_at s (ended_before 0) k f ≡ false
+  ended_none : (f : Option Position) → is_such_at s (ended_before 0) k f ≡ false
   unfolding ended_before
-  ended_none Absent = refl
-  ended_none (At p) = le-ltb (number (end_of (entry_of k (drop (p.at + 1) s)))) 0 (omega arith)
+  ended_none None = refl
+  ended_none (Some p) = le-ltb (number (end_of (entry_of k (drop (p.at + 1) s)))) 0 (omega arith)
 
   pub until_none : (d : ℕ) → in_force_until_by s q d 0 k code ≡ in_force_by s q d k code
   unfolding in_force_until_by ended_by

@@ -12,8 +12,6 @@ use lib.Seq.{take-append_seam}
 use Rattle.house.specs.Text.{Text}
 use Rattle.house.proofs.Small.{clash, both}
 use Rattle.book.specs.declared.Sections.{Sections}
-use Rattle.book.specs.declared.Validity.{Validity}
-use Rattle.book.specs.declared.Validity.TheVariants.{Valid, Malformed}
 use Rattle.book.specs.Book.{body_width, entry_of, entries, bytes_before, book_ok, sections_of, valid_of, Sound}
 use Rattle.book.specs.LookUp.{hash_kinds, with_hash_table}
 use Rattle.book.specs.Inside.{sound_from}
@@ -21,22 +19,23 @@ use Rattle.book.proofs.EntryLaws.{unroll, top_false}
 use Rattle.book.proofs.OrderlyLaws.{book_is}
 use Rattle.book.proofs.KindLaws.{skips}
 use Rattle.book.proofs.SectionLaws.{book_sound}
+use Rattle.std.proofs.Common.{Option, Some, None}
 
 -- what the answer of `valid` says
-module _ (s : Text) (v : Validity) (e : v ≡ valid_of s) where
-  pub valid_sound : (q : Sections) → v ≡ Valid q → Sound s q
+module _ (s : Text) (v : Option Sections) (e : v ≡ valid_of s) where
+  pub valid_sound : (q : Sections) → v ≡ Some q → Sound s q
   unfolding valid_of
   valid_sound q h = go (book_ok s) refl (sym e ∙ h)
     where
-      go : (b : Bool) → book_ok s ≡ b → cond b (Valid (sections_of s)) Malformed ≡ Valid q → Sound s q
+      go : (b : Bool) → book_ok s ≡ b → cond b (Some (sections_of s)) None ≡ Some q → Sound s q
       go true p z = record { ok = p; sections = cc }
       go false p z = clash (cc)
 
-  pub valid_bad : v ≡ Malformed → book_ok s ≡ false
+  pub valid_bad : v ≡ None → book_ok s ≡ false
   unfolding valid_of
   valid_bad h = go (book_ok s) refl (sym e ∙ h)
     where
-      go : (b : Bool) → book_ok s ≡ b → cond b (Valid (sections_of s)) Malformed ≡ Malformed → book_ok s ≡ false
+      go : (b : Bool) → book_ok s ≡ b → cond b (Some (sections_of s)) None ≡ None → book_ok s ≡ false
       go true p z = clash (cc)
       go false p z = p
 

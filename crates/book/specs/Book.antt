@@ -1,13 +1,11 @@
 -- The code book: its entries, their form and order, what it says of a code on a day, and what reading it gives.
 -- Assumes nothing.
-use Rattle.std.specs.Prelude.{ℕ, zero, suc, ◌+◌, ◌≡◌, Bool, true, not, cond, ◌&&◌, ◌||◌, List, [], ◌∷◌, ◌++◌, length, take, drop, eqb, ltb, leb}
+use Rattle.std.specs.Prelude.{ℕ, zero, suc, ◌+◌, ◌≡◌, Bool, true, not, cond, ◌&&◌, ◌||◌, List, [], ◌∷◌, ◌++◌, length, take, drop, eqb, ltb, leb, Option, Some, None}
 use Rattle.house.specs.Text.{Text, any, all, adjacent, within, below, same, digits, number, is_padded}
 use Rattle.dates.specs.Dates.{is_date, is_end}
 use Rattle.book.specs.declared.Read.{Read}
 use Rattle.book.specs.declared.Read.TheVariants as read
 use Rattle.book.specs.declared.Sections.{Sections}
-use Rattle.book.specs.declared.Validity.{Validity}
-use Rattle.book.specs.declared.Validity.TheVariants as validity
 use Rattle.book.specs.declared.Standing.{Standing}
 use Rattle.book.specs.declared.Standing.TheVariants.{Unknown, OutOfForce, InForce}
 
@@ -216,8 +214,8 @@ sections_of s =
     }
 
 -- a book is valid, and has these sections, exactly if it is well formed
-unfoldable pub valid_of : Text → Validity
-valid_of s = cond (book_ok s) (validity.Valid (sections_of s)) validity.Malformed
+unfoldable pub valid_of : Text → Option Sections
+valid_of s = cond (book_ok s) (Some (sections_of s)) None
 
 -- a book that is well formed, and its sections
 pub record Sound (s : Text) (q : Sections) : Type 0 where

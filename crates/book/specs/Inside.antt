@@ -1,16 +1,15 @@
 -- What the crate's own functions answer: cited by private contracts and by laws.
 -- Assumes nothing.
-use Rattle.std.specs.Prelude.{ℕ, suc, ◌+◌, ◌≤◌, ◌<◌, ◌≡◌, Bool, true, false, not, cond, ◌&&◌, List, [], ◌∷◌, ◌++◌, length, get_or, take, drop, eqb, leb}
+use Rattle.std.specs.Prelude.{ℕ, suc, ◌+◌, ◌≤◌, ◌<◌, ◌≡◌, Bool, true, false, not, cond, ◌&&◌, List, [], ◌∷◌, ◌++◌, length, get_or, take, drop, eqb, leb, Option, Some, None}
 use Rattle.house.specs.Text.{Text, below, pad, order_of}
-use Rattle.house.specs.declared.Order.{Order}
+use Rattle.std.specs.declared.cmp.Ordering.{Ordering}
 use Rattle.book.specs.declared.Sections.{Sections}
 use Rattle.book.specs.declared.Layout.{Layout}
-use Rattle.book.specs.declared.Found.{Found}
-use Rattle.book.specs.declared.Found.TheVariants.{At, Absent}
 use Rattle.book.specs.declared.Standing.{Standing}
 use Rattle.book.specs.declared.Standing.TheVariants.{Unknown, OutOfForce, InForce}
 use Rattle.book.specs.LookUp.{section_start, count_from, entry_hashed, named_in, searched_in, sought_in, is_there, is_such_at}
 use Rattle.book.specs.Book.{first_width, second_width, code_width, body_width, Entry, entry_of, entries, code_of, body_form, entry_form, above, bytes_before, in_force, ended_before, code_text}
+use Rattle.book.specs.declared.Position.{Position}
 
 -- Validity, kind by kind
 
@@ -66,7 +65,7 @@ unfoldable pub code_padded : ℕ → Text → Text → Text
 code_padded k a b = pad (first_width k) a ++ pad (second_width k) b
 
 -- how the code of p bytes at a place, and the one of q after it, stand to two texts, padded
-unfoldable pub code_order : Text → ℕ → ℕ → ℕ → Text → Text → Order
+unfoldable pub code_order : Text → ℕ → ℕ → ℕ → Text → Text → Ordering
 code_order s at p q a b = order_of (take (p + q) (drop at s)) (pad p a ++ pad q b)
 
 -- a layout, written out
@@ -94,33 +93,33 @@ pub record Laid (s : Text) (k : ℕ) (w : Layout) : Type 0 where
   pub widths : WidthsAre k w
 
 -- an entry of kind k that was found lies in the book
-abbrev pub Lies : Text → ℕ → Found → Type 0
-Lies s k Absent = Unit {0}
-Lies s k (At p) = p.at + 1 + body_width k ≤ length s
+abbrev pub Lies : Text → ℕ → Option Position → Type 0
+Lies s k None = Unit {0}
+Lies s k (Some p) = p.at + 1 + body_width k ≤ length s
 
 -- what a look-up among the entries of a kind hands back
-pub record FoundIs (s : Text) (k : ℕ) (f r : Found) : Type 0 where
+pub record FoundIs (s : Text) (k : ℕ) (f r : Option Position) : Type 0 where
   pub exact : r ≡ f
   pub lies : Lies s k r
 
 -- by entry i alone, by binary search, by both, and by both with the entry that the table from `end` on names
-abbrev pub NamedIs : Text → ℕ → Layout → ℕ → Text → Text → Found → Type 0
+abbrev pub NamedIs : Text → ℕ → Layout → ℕ → Text → Text → Option Position → Type 0
 NamedIs s k w i a b r = FoundIs s k (named_in s k w.from (count_from s k w.from w.to) (code_text k a b) i) r
 
-abbrev pub SearchedIs : Text → ℕ → Layout → Text → Text → Found → Type 0
+abbrev pub SearchedIs : Text → ℕ → Layout → Text → Text → Option Position → Type 0
 SearchedIs s k w a b r = FoundIs s k (searched_in s k w.from (count_from s k w.from w.to) (code_text k a b)) r
 
-abbrev pub SoughtIs : Text → ℕ → Layout → ℕ → Text → Text → Found → Type 0
+abbrev pub SoughtIs : Text → ℕ → Layout → ℕ → Text → Text → Option Position → Type 0
 SoughtIs s k w i a b r = FoundIs s k (sought_in s k w.from (count_from s k w.from w.to) (code_text k a b) i) r
 
-abbrev pub HashedIs : Text → ℕ → Layout → ℕ → Text → Text → Found → Type 0
+abbrev pub HashedIs : Text → ℕ → Layout → ℕ → Text → Text → Option Position → Type 0
 HashedIs s k w end a b r = SoughtIs s k w (entry_hashed s end k (code_text k a b)) a b r
 
 -- the entry of kind k that has the code of two texts, among those laid out so, by the table from `end` on
-unfoldable pub found_by : Text → ℕ → Layout → ℕ → Text → Text → Found
+unfoldable pub found_by : Text → ℕ → Layout → ℕ → Text → Text → Option Position
 found_by s k w end a b =
     let code = code_text k a b in
-    cond (eqb (length code) (code_width k)) (sought_in s k w.from (count_from s k w.from w.to) code (entry_hashed s end k code)) Absent
+    cond (eqb (length code) (code_width k)) (sought_in s k w.from (count_from s k w.from w.to) code (entry_hashed s end k code)) None
 
 -- an entry is in force on day d, and did not end before day u
 abbrev pub in_force_until : ℕ → ℕ → Entry → Bool

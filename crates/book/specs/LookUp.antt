@@ -3,16 +3,15 @@
 -- day, and that it ended before a day. For bytes that start with a valid book, by its own sections, they are what the book's entries say,
 -- whatever the hash table (proofs/StandingLaws).
 -- Assumes nothing.
-use Rattle.std.specs.Prelude.{ℕ, zero, suc, ◌+◌, ◌-◌, ◌*◌, ◌/◌, ◌%◌, Bool, true, false, not, cond, ◌&&◌, [], ◌∷◌, ◌++◌, length, take, drop, get_or, set, eqb, ltb, leb}
+use Rattle.std.specs.Prelude.{ℕ, zero, suc, ◌+◌, ◌-◌, ◌*◌, ◌/◌, ◌%◌, Bool, true, false, not, cond, ◌&&◌, [], ◌∷◌, ◌++◌, length, take, drop, get_or, set, eqb, ltb, leb, Option, Some, None}
 use Rattle.house.specs.Text.{Text, order_of, same}
 use Rattle.house.specs.Search.{binary_search}
-use Rattle.house.specs.declared.Order.{Order}
+use Rattle.std.specs.declared.cmp.Ordering.{Ordering}
 use Rattle.book.specs.declared.Sections.{Sections}
-use Rattle.book.specs.declared.Found.{Found}
-use Rattle.book.specs.declared.Found.TheVariants.{At, Absent}
 use Rattle.book.specs.declared.Standing.{Standing}
 use Rattle.book.specs.declared.Standing.TheVariants.{Unknown, OutOfForce, InForce}
 use Rattle.book.specs.Book.{first_width, code_width, body_width, Entry, entry_of, in_force, ended_before}
+use Rattle.book.specs.declared.Position.{Position}
 
 -- where the entries of kind k start, and those of the kind before it end
 unfoldable pub section_start : Sections → ℕ → ℕ
@@ -43,11 +42,11 @@ unfoldable pub code_at : Text → ℕ → ℕ → ℕ → Text
 code_at s k from i = take (code_width k) (drop (place_of k from i + 1) s)
 
 -- how its code stands to this one
-unfoldable pub order_at : Text → ℕ → ℕ → Text → ℕ → Order
+unfoldable pub order_at : Text → ℕ → ℕ → Text → ℕ → Ordering
 order_at s k from code i = order_of (code_at s k from i) code
 
-unfoldable pub found_at : ℕ → ℕ → ℕ → Found
-found_at k from i = At (record { at = place_of k from i })
+unfoldable pub found_at : ℕ → ℕ → ℕ → Option Position
+found_at k from i = Some (record { at = place_of k from i })
 
 -- so many hashes there are
 abbrev pub hashes : ℕ
@@ -81,35 +80,35 @@ entry_hashed s end k code =
     get_or table at 0 + get_or table (at + 1) 0 * 256
 
 -- where entry i is of the n of kind k that start at `from`, if there is one and it has the code
-unfoldable pub named_in : Text → ℕ → ℕ → ℕ → Text → ℕ → Found
-named_in s k from n code i = cond (ltb i n && same (code_at s k from i) code) (found_at k from i) Absent
+unfoldable pub named_in : Text → ℕ → ℕ → ℕ → Text → ℕ → Option Position
+named_in s k from n code i = cond (ltb i n && same (code_at s k from i) code) (found_at k from i) None
 
 -- where one of them is that has the code, by binary search
-unfoldable pub searched_in : Text → ℕ → ℕ → ℕ → Text → Found
-searched_in s k from n code = binary_search (order_at s k from code) (found_at k from) Absent n 0 n
+unfoldable pub searched_in : Text → ℕ → ℕ → ℕ → Text → Option Position
+searched_in s k from n code = binary_search (order_at s k from code) (found_at k from) None n 0 n
 
 -- the first place, or the second where there is none
-abbrev pub else_found : Found → Found → Found
-else_found (At p) f = At p
-else_found Absent f = f
+abbrev pub else_found : Option Position → Option Position → Option Position
+else_found (Some p) f = Some p
+else_found None f = f
 
 -- where one of them is that has the code: entry i is asked first
-unfoldable pub sought_in : Text → ℕ → ℕ → ℕ → Text → ℕ → Found
+unfoldable pub sought_in : Text → ℕ → ℕ → ℕ → Text → ℕ → Option Position
 sought_in s k from n code i = else_found (named_in s k from n code i) (searched_in s k from n code)
 
 -- where the entry is that has this kind, and this code as the book writes it
-unfoldable pub found_in : Text → Sections → ℕ → Text → Found
+unfoldable pub found_in : Text → Sections → ℕ → Text → Option Position
 found_in s q k code =
-    cond (leb k 8 && eqb (length code) (code_width k)) (sought_in s k (section_start q k) (count_in s q k) code (entry_hashed s q.end k code)) Absent
+    cond (leb k 8 && eqb (length code) (code_width k)) (sought_in s k (section_start q k) (count_in s q k) code (entry_hashed s q.end k code)) None
 
-abbrev pub is_there : Found → Bool
-is_there Absent = false
-is_there (At p) = true
+abbrev pub is_there : Option Position → Bool
+is_there None = false
+is_there (Some p) = true
 
 -- something holds of the entry of kind k that was found
-abbrev pub is_such_at : Text → (Entry → Bool) → ℕ → Found → Bool
-is_such_at s p k Absent = false
-is_such_at s p k (At a) = p (entry_of k (drop (a.at + 1) s))
+abbrev pub is_such_at : Text → (Entry → Bool) → ℕ → Option Position → Bool
+is_such_at s p k None = false
+is_such_at s p k (Some a) = p (entry_of k (drop (a.at + 1) s))
 
 -- the code is known
 unfoldable pub known_by : Text → Sections → ℕ → Text → Bool

@@ -9,7 +9,7 @@ ghost use Rattle.book.specs.Inside.{WidthsAre, in_force_until, said_by};
 use crate::codes::eight_are;
 use crate::kinds::VACCINE;
 use crate::search::found;
-use crate::{Found, Layout, Sections, Standing};
+use crate::{Layout, Sections, Standing};
 use dates::Date;
 
 // What a byte counts as a digit.
@@ -17,7 +17,7 @@ fn digit(b: u8) -> u32
     ensures value { result ≡ b - 48 }
     ensures upper_bound { result ≤ 207 }
 {
-    if b < 48 { 0 } else { (b - 48) as u32 }
+    u32::from(b.saturating_sub(b'0'))
 }
 
 // The number that the eight digits at a place write.
@@ -88,14 +88,14 @@ fn standing(
 {
     let f = found(book, w, end, kind, a, b);
     match f {
-        Found::At(place) => {
+        Some(place) => {
             if in_force(book, w, kind, place.at, day, until) {
                 Standing::InForce
             } else {
                 Standing::OutOfForce
             }
         }
-        Found::Absent => Standing::Unknown,
+        None => Standing::Unknown,
     }
 }
 

@@ -4,7 +4,7 @@ ghost use Rattle.book.specs.Book.{start_width, code_width, body_width, first_for
 
 use crate::kinds::{VACCINE, WITH_ANTIGEN, WITH_REASON};
 use crate::widths::{code_width, first_width, start_width};
-use dates::{Date, Dated};
+use dates::Date;
 
 // Whether a code, or the first of two, has its form: a reason two digits, any other a padded code.
 fn first_ok(k: u8, t: &[u8]) -> bool
@@ -48,8 +48,8 @@ fn start_ok(k: u8, t: &[u8]) -> bool
     if k == VACCINE {
         let d = Date::of(t);
         match d {
-            Dated::Day(_) => true,
-            Dated::NoDate => false,
+            Some(_) => true,
+            None => false,
         }
     } else {
         true

@@ -8,14 +8,6 @@ ghost use Rattle.book.specs.Inside.{fits, WidthsAre};
 use crate::layouts::count_of;
 use crate::{Layout, Sections};
 
-// A byte, as a number to reckon with.
-fn value(b: u8) -> usize
-    ensures value { result ≡ b }
-    ensures upper_bound { result < 256 }
-{
-    b as usize
-}
-
 // So many hashes there are.
 const HASHES: usize = 32768;
 
@@ -33,10 +25,8 @@ fn hash(text: &[u8]) -> usize
     ensures upper_bound { result < hashes }
 {
     let mut h = 0;
-    let mut i = text.len();
-    while 0 < i {
-        i -= 1;
-        h = (h * TEXT_WEIGHT + value(text[i]) + LESS_BLANK) % HASHES;
+    for i in (0..text.len()).rev() {
+        h = (h * TEXT_WEIGHT + usize::from(text[i]) + LESS_BLANK) % HASHES;
     }
     h
 }
@@ -46,7 +36,7 @@ fn hash_of(k: u8, a: &[u8], b: &[u8]) -> usize
     ensures value { result ≡ (hash_of b.now * second_weight + hash_of a.now + k) % hashes }
     ensures upper_bound { result < hashes }
 {
-    (hash(b) * SECOND_WEIGHT + hash(a) + value(k)) % HASHES
+    (hash(b) * SECOND_WEIGHT + hash(a) + usize::from(k)) % HASHES
 }
 
 // The byte of a table at a place, 0 past its end.
@@ -54,10 +44,9 @@ fn last_byte(table: &[u8], at: usize) -> usize
     ensures value { result ≡ get_or table.now at 0 }
     ensures upper_bound { result < 256 }
 {
-    if at < table.len() {
-        value(table[at])
-    } else {
-        0
+    match table.get(at) {
+        Some(b) => usize::from(*b),
+        None => 0,
     }
 }
 
@@ -73,7 +62,7 @@ pub(crate) fn hashed(book: &[u8], end: usize, k: u8, a: &[u8], b: &[u8]) -> usiz
     let at = hash_of(k, a, b) * 2;
     let table = &book[end..];
     if at + 1 < table.len() {
-        value(table[at]) + value(table[at + 1]) * 256
+        usize::from(table[at]) + usize::from(table[at + 1]) * 256
     } else {
         last_byte(table, at)
     }
@@ -110,10 +99,8 @@ fn hash_entries(book: &[u8], sections: Sections, k: u8, table: &mut [u8])
 {
     let w = sections.layout_of(k);
     let n = count_of(book, w, k);
-    let mut i = 0;
-    while i < n {
+    for i in 0..n {
         hash_entry(book, k, w, n, i, table);
-        i += 1;
     }
 }
 
@@ -121,9 +108,7 @@ fn hash_entries(book: &[u8], sections: Sections, k: u8, table: &mut [u8])
 fn hash_kinds(book: &[u8], sections: Sections, table: &mut [u8])
     ensures { table.new ≡ hash_kinds book.now sections 8 table.old }
 {
-    let mut k: u8 = 0;
-    while k < 8 {
-        k += 1;
+    for k in 1..9 {
         hash_entries(book, sections, k, table);
     }
 }
@@ -133,11 +118,7 @@ fn copy_book(book: &[u8], buffer: &mut [u8])
     requires { length book.now ≤ length buffer.old }
     ensures { buffer.new ≡ book.now ++ drop (length book.now) buffer.old }
 {
-    let mut i = 0;
-    while i < book.len() {
-        buffer[i] = book[i];
-        i += 1;
-    }
+    buffer[..book.len()].copy_from_slice(book);
 }
 
 // Copies a book to the front of a buffer and hashes its entries into what is left of it. Where the buffer is shorter than the book it stays as lent.

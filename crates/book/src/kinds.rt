@@ -1,4 +1,4 @@
-// The kinds of entry, by number.
+// The kinds of entry, by number. No enum: `find` and `look_up` answer for every number, and an enum would ask more of their callers.
 
 pub const VACCINE: u8 = 1;
 

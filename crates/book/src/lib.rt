@@ -27,6 +27,7 @@ pub struct Position {
 }
 
 // What stands at a position: a whole entry of a known kind, with where its body starts and the next position; the end; or neither.
+// No `Option` and no `Result`: there are three ways, and `Option<Result<Entry, Malformed>>` says them in two constructors each.
 #[derive(Clone, Copy)]
 pub enum Read {
     Entry {
@@ -59,20 +60,6 @@ pub(crate) struct Layout {
     pub(crate) first: usize,
     pub(crate) second: usize,
     pub(crate) entry: usize,
-}
-
-// Whether a book is well formed; if so, with its sections.
-#[derive(Clone, Copy)]
-pub enum Validity {
-    Valid(Sections),
-    Malformed,
-}
-
-// Where an entry is.
-#[derive(Clone, Copy)]
-pub enum Found {
-    At(Position),
-    Absent,
 }
 
 // What a book says of a code on a day.

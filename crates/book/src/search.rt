@@ -8,14 +8,14 @@ ghost use Rattle.book.specs.Inside.{fits, code_order, found_by, WidthsAre, Laid,
 use crate::codes::{code_order, has_code};
 use crate::hash_table::hashed;
 use crate::layouts::count_of;
-use crate::{Found, Layout, Position, Sections};
-use house::Order;
+use crate::{Layout, Position, Sections};
+use std::cmp::Ordering;
 
 // Where an entry starts, and how its code stands to another.
 #[derive(Clone, Copy)]
 struct Probed {
     at: usize,
-    order: Order,
+    order: Ordering,
 }
 
 // Reads entry i of the n that are laid out so.
@@ -34,7 +34,7 @@ fn probe(book: &[u8], n: usize, i: usize, w: Layout, a: &[u8], b: &[u8]) -> Prob
 }
 
 // Entry i of a kind, if there is one and it has the code.
-fn named(book: &[u8], w: Layout, kind: u8, i: usize, a: &[u8], b: &[u8]) -> Found
+fn named(book: &[u8], w: Layout, kind: u8, i: usize, a: &[u8], b: &[u8]) -> Option<Position>
     requires laid { Laid book.now kind w }
     requires b_value { fits kind a.now b.now ≡ true }
     requires i_bound { i < 65536 }
@@ -42,18 +42,18 @@ fn named(book: &[u8], w: Layout, kind: u8, i: usize, a: &[u8], b: &[u8]) -> Foun
 {
     let past = (i + 1) * w.entry;
     if w.to - w.from < past {
-        return Found::Absent;
+        return None;
     }
     let at = w.from + i * w.entry;
     if has_code(book, at + 1, w.first, w.second, a, b) {
-        Found::At(Position { at })
+        Some(Position { at })
     } else {
-        Found::Absent
+        None
     }
 }
 
-// The binary search: entries lo to hi are left of those of the kind.
-fn binary_search(book: &[u8], w: Layout, kind: u8, a: &[u8], b: &[u8]) -> Found
+// The binary search: entries lo to hi are left of those of the kind. By hand, as in `ledger` (find).
+fn binary_search(book: &[u8], w: Layout, kind: u8, a: &[u8], b: &[u8]) -> Option<Position>
     requires laid { Laid book.now kind w }
     requires b_value { fits kind a.now b.now ≡ true }
     ensures { SearchedIs book.now kind w a.now b.now result }
@@ -66,23 +66,23 @@ fn binary_search(book: &[u8], w: Layout, kind: u8, a: &[u8], b: &[u8]) -> Found
         let p = probe(book, n, mid, w, a, b);
         let o = p.order;
         match o {
-            Order::Less => {
+            Ordering::Less => {
                 lo = mid + 1;
             }
-            Order::More => {
+            Ordering::Greater => {
                 hi = mid;
             }
-            Order::Same => {
+            Ordering::Equal => {
                 let at = p.at;
-                return Found::At(Position { at });
+                return Some(Position { at });
             }
         }
     }
-    Found::Absent
+    None
 }
 
 // The entry of a kind with a code: entry i is asked first.
-fn sought(book: &[u8], w: Layout, kind: u8, i: usize, a: &[u8], b: &[u8]) -> Found
+fn sought(book: &[u8], w: Layout, kind: u8, i: usize, a: &[u8], b: &[u8]) -> Option<Position>
     requires laid { Laid book.now kind w }
     requires b_value { fits kind a.now b.now ≡ true }
     requires i_bound { i < 65536 }
@@ -90,47 +90,54 @@ fn sought(book: &[u8], w: Layout, kind: u8, i: usize, a: &[u8], b: &[u8]) -> Fou
 {
     let g = named(book, w, kind, i, a, b);
     match g {
-        Found::At(place) => Found::At(place),
-        Found::Absent => binary_search(book, w, kind, a, b),
+        Some(place) => Some(place),
+        None => binary_search(book, w, kind, a, b),
     }
 }
 
 // The entry of a kind with a code, by the table from `end` on or by binary search.
-fn in_section(book: &[u8], end: usize, w: Layout, kind: u8, a: &[u8], b: &[u8]) -> Found
+fn in_section(book: &[u8], end: usize, w: Layout, kind: u8, a: &[u8], b: &[u8]) -> Option<Position>
     requires widths_are { WidthsAre kind w }
     requires b_value { fits kind a.now b.now ≡ true }
     ensures { HashedIs book.now kind w end a.now b.now result }
 {
     if w.to < w.from {
-        return Found::Absent;
+        return None;
     }
     if book.len() < w.to {
-        return Found::Absent;
+        return None;
     }
     let i = hashed(book, end, kind, a, b);
     sought(book, w, kind, i, a, b)
 }
 
 // The entry of a kind that is laid out so, with a code, and that it lies in the book.
-pub(crate) fn found(book: &[u8], w: Layout, end: usize, kind: u8, a: &[u8], b: &[u8]) -> Found
+pub(crate) fn found(
+    book: &[u8],
+    w: Layout,
+    end: usize,
+    kind: u8,
+    a: &[u8],
+    b: &[u8],
+) -> Option<Position>
     requires { WidthsAre kind w }
     ensures { FoundIs book.now kind (found_by book.now kind w end a.now b.now) result }
 {
     if w.first < a.len() {
-        return Found::Absent;
+        return None;
     }
     if w.second < b.len() {
-        return Found::Absent;
+        return None;
     }
     in_section(book, end, w, kind, a, b)
 }
 
 // Finds the entry of a kind with a code, given as one text or, for a pair, as two, not padded. A text longer than its code's width is absent.
-pub fn find(book: &[u8], sections: Sections, kind: u8, a: &[u8], b: &[u8]) -> Found
+pub fn find(book: &[u8], sections: Sections, kind: u8, a: &[u8], b: &[u8]) -> Option<Position>
     ensures { result ≡ found_in book.now sections kind (code_text kind a.now b.now) }
 {
     if 8 < kind {
-        return Found::Absent;
+        return None;
     }
     let w = sections.layout_of(kind);
     found(book, w, sections.end, kind, a, b)

@@ -5,7 +5,7 @@ ghost use Rattle.book.specs.Inside.{body_follows, step_len, RunIs};
 
 use crate::forms::body_ok;
 use crate::widths::code_width;
-use crate::{Position, Read, Sections, Validity};
+use crate::{Position, Read, Sections};
 
 // Whether the body of an entry has its form, and a code above the last.
 fn body_follows(k: u8, body: &[u8], last: &[u8]) -> bool
@@ -56,6 +56,7 @@ fn run(book: &[u8], from: usize, k: u8) -> usize
     let mut at = from;
     let mut was = from;
     let mut till = from;
+    // Not a `for`: the place moves on by the length of each entry.
     while at < book.len() {
         let next = step(book, at, k, was, till);
         if next == at {
@@ -72,22 +73,20 @@ fn run(book: &[u8], from: usize, k: u8) -> usize
 const MOST: usize = 262144;
 
 // Whether a book is well formed, in one pass over it.
-pub fn valid(book: &[u8]) -> Validity
+pub fn valid(book: &[u8]) -> Option<Sections>
     ensures { result ≡ valid_of book.now }
 {
     if MOST < book.len() {
-        return Validity::Malformed;
+        return None;
     }
     let mut starts = [0usize; 9];
     let mut at = 0;
-    let mut k: usize = 1;
-    while k < 9 {
+    for k in 1..9 {
         starts[k] = at;
         at = run(book, at, k as u8);
-        k += 1;
     }
     if at == book.len() {
-        Validity::Valid(Sections {
+        Some(Sections {
             antigens: starts[2],
             reasons: starts[3],
             manufacturers: starts[4],
@@ -98,6 +97,6 @@ pub fn valid(book: &[u8]) -> Validity
             end: at,
         })
     } else {
-        Validity::Malformed
+        None
     }
 }

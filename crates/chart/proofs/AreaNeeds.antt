@@ -1,16 +1,19 @@
 -- What each need of the functions that write bytes, texts and numbers asks.
 -- Assumes nothing.
-use mathlib.Core.Path.{◌≡◌, sym, ap, ◌∙◌}
+use mathlib.Core.Path.{◌≡◌, refl, sym, ap, ◌∙◌}
+use mathlib.Core.Bool.{Bool, true, false}
 use mathlib.Core.List.{List, [], ◌∷◌}
-use Prim.Native.Nat.{ℕ, ◌+◌, ◌-◌, ◌/◌, ◌%◌, ◌≤◌, ◌<◌}
+use Prim.Native.Nat.{ℕ, zero, suc, ◌+◌, ◌-◌, ◌/◌, ◌%◌, ◌≤◌, ◌<◌}
 use native.Mathlib.Omega.{arith}
 use borrow.Author.Rules.{rules}
-use lib.ListN.{length, get_or, drop, set}
+use borrow.Rule.Slice.PartMut.{put_mid}
+use borrow.Author.Tests.{ltb-true, ltb-false}
+use lib.Dec.{ltb}
+use lib.ListN.{length, set, length-set}
 use Rattle.house.specs.Text.{Text}
-use Rattle.house.proofs.Suffix.{drop_here, drop_past}
 use Rattle.writing.specs.Writing.{over_from, decimal}
-use Rattle.writing.proofs.OverLaws.{over_from_none, over_from_one, over_from_head, over_from_join, over_from_last, length_over_from}
-use Rattle.writing.proofs.DecimalLaws.{decimal_small, decimal_step, long_step, long_some}
+use Rattle.writing.proofs.OverLaws.{over_from_start, over_from_one, over_from_join, over_from_last, length_over_from}
+use Rattle.writing.proofs.DecimalLaws.{decimal_small, decimal_step, long_small, long_step, long_some}
 use Rattle.chart_definitions.specs.Submissions.{piped}
 
 -- put_byte
@@ -20,20 +23,18 @@ byte_put out at b = sym (over_from_one at b out)
 pub ruleset for_put_byte = (rules, byte_put)
 
 -- put_text
-pub text_start : (out t : List ℕ) (at : ℕ) → over_from at t out ≡ over_from (at + 0) (drop 0 t) out
-text_start out t at = let e : at + 0 ≡ at = omega arith in sym (ap (λ (n : ℕ). over_from n t out) e)
+text_mid : (at : ℕ) (t out : List ℕ) → at + length t ≤ length out → put_mid at (length t) out t ≡ over_from at t out
+text_mid zero t out h = let k : length t ≤ length out = omega (arith, h) in sym (over_from_start t out k)
+text_mid (suc at) t [] h = absurd (omega (arith, h))
+text_mid (suc at) t (b ∷ out) h = ap (λ (l : List ℕ). b ∷ l) (text_mid at t out (omega (arith, h)))
 
-module _ (x out t : List ℕ) (at i : ℕ) (inv : x ≡ over_from (at + i) (drop i t) out) where
-  pub text_on : i < length t → x ≡ over_from (at + (i + 1)) (drop (i + 1) t) (set out (at + i) (get_or t i 0))
-  text_on h =
-      let e : at + i + 1 ≡ at + (i + 1) = omega arith in
-      inv ∙ ap (λ (l : List ℕ). over_from (at + i) l out) (drop_here t i h) ∙ over_from_head (at + i) (get_or t i 0) (drop (i + 1) t) out
-      ∙ ap (λ (n : ℕ). over_from n (drop (i + 1) t) (set out (at + i) (get_or t i 0))) e
+pub text_put : (at : ℕ) (t copy out : List ℕ) → copy ≡ t → at + length t ≤ length out
+    → put_mid at (at + length t - at) out copy ≡ over_from at t out
+text_put at t copy out e h =
+    let k : at + length t - at ≡ length t = omega arith in
+    rw (e, k) (text_mid at t out h)
 
-  pub text_end : length t ≤ i → out ≡ x
-  text_end h = sym (inv ∙ ap (λ (l : List ℕ). over_from (at + i) l out) (drop_past t i h) ∙ over_from_none (at + i) out)
-
-pub ruleset for_put_text = (rules, text_start, text_on, text_end)
+pub ruleset for_put_text = (rules, text_put)
 
 -- put_piped and put_piped_number
 module _ (a b c t : List ℕ) (at end : ℕ) (p : b ≡ over_from at t a) (e : end ≡ at + length t) where
@@ -63,25 +64,60 @@ module _ (x out : List ℕ) (at i m d : ℕ) (inv : x ≡ over_from at (decimal 
       let k : 48 + m ≡ d = omega (arith, e, h) in
       sym (inv ∙ ap (λ (t : Text). over_from at t out) (decimal_small m h) ∙ over_from_one at (48 + m) out ∙ ap (set out at) k)
 
--- how many digits are left
-pub digits_left : (i m : ℕ) → i + 1 ≡ length (decimal m) → 10 ≤ m → i - 1 + 1 ≡ length (decimal (m / 10))
-digits_left i m l h = omega (arith, l, long_step m h, long_some (m / 10))
+-- of the digits so many are left, those of m
+pub record Digiting (n at : ℕ) (before : List ℕ) (k m : ℕ) (out : List ℕ) : Type 0 where
+  pub long : length out ≡ length before
+  pub left : 0 < k → k ≡ length (decimal m)
+  pub area_on : 0 < k → over_from at (decimal n) before ≡ over_from at (decimal m) out
+  pub over : k ≡ 0 → out ≡ over_from at (decimal n) before
 
-pub digits_more : (i m : ℕ) → i + 1 ≡ length (decimal m) → 10 ≤ m → 1 ≤ i
-digits_more i m l h = omega (arith, l, long_step m h, long_some (m / 10))
+pub digits_start : (l n at : ℕ) (out : List ℕ) → l ≡ length (decimal n) → Digiting n at out l n out
+digits_start l n at out e =
+    record { long = refl; left = λ h. e; area_on = λ h. refl; over = λ z. absurd (omega (arith, e, z, long_some n)) }
 
-pub digits_some : (l n : ℕ) → l ≡ length (decimal n) → 1 ≤ l
-digits_some l n h = omega (arith, h, long_some n)
+module _ (n at i k m : ℕ) (before out : List ℕ) (g : Digiting n at before k m out) where
+  digits_next : (d : ℕ) → k ≡ i + 1 → d ≡ 48 + m % 10 → Digiting n at before i (m / 10) (set out (at + i) d)
+  digits_next d e q = go (ltb m 10) refl
+    where
+      l : i + 1 ≡ length (decimal m)
+      l = omega (arith, e, g.left (omega (arith, e)))
 
-pub digits_start : (l n : ℕ) → l ≡ length (decimal n) → l - 1 + 1 ≡ length (decimal n)
-digits_start l n h = omega (arith, h, long_some n)
+      inv : over_from at (decimal n) before ≡ over_from at (decimal m) out
+      inv = g.area_on (omega (arith, e))
 
-pub digits_room : (l n at room : ℕ) → l ≡ length (decimal n) → at + l ≤ room → at + (l - 1) < room
-digits_room l n at room h k = omega (arith, h, k, long_some n)
+      kept : length (set out (at + i) d) ≡ length before
+      kept = length-set out (at + i) d ∙ g.long
 
-pub digits_room_on : (i m at room : ℕ) → i + 1 ≡ length (decimal m) → 10 ≤ m → at + i < room → at + (i - 1) < room
-digits_room_on i m at room h k r = omega (arith, r)
+      go : (v : Bool) → ltb m 10 ≡ v → Digiting n at before i (m / 10) (set out (at + i) d)
+      go true z =
+          let h : m < 10 = ltb-true m 10 z in
+          let y : i ≡ 0 = omega (arith, l, long_small m h) in
+          let w : at + i ≡ at = omega (arith, y) in
+          record {
+            long = kept;
+            left = λ p. absurd (omega (arith, p, y));
+            area_on = λ p. absurd (omega (arith, p, y));
+            over = λ p. ap (λ (j : ℕ). set out j d) w ∙ digits_end (over_from at (decimal n) before) out at i m d inv l q h;
+          }
+      go false z =
+          let h : 10 ≤ m = ltb-false m 10 z in
+          record {
+            long = kept;
+            left = λ p. omega (arith, l, long_step m h);
+            area_on = λ p. digits_on (over_from at (decimal n) before) out at i m d inv l q h;
+            over = λ p. absurd (omega (arith, p, l, long_step m h, long_some (m / 10)));
+          }
 
-pub ruleset for_put_digits = (rules, digits_on, digits_end, digits_left, digits_more, digits_some, digits_start, digits_room, digits_room_on)
+module _ (n at k m : ℕ) (before out : List ℕ) (g : Digiting n at before k m out) where
+  pub digits_on_one : (d : ℕ) → 0 < k → d ≡ 48 + m % 10 → Digiting n at before (k - 1) (m / 10) (set out (at + (k - 1)) d)
+  digits_on_one d h q = digits_next n at (k - 1) k m before out g d (omega (arith, h)) q
+
+  pub digits_done : k ≡ 0 → out ≡ over_from at (decimal n) before
+  digits_done z = g.over z
+
+  pub digits_long : length out ≡ length before
+  digits_long = g.long
+
+pub ruleset for_put_digits = (rules, digits_start, digits_on_one, digits_done, digits_long)
 
 pub ruleset for_put_number = (rules)

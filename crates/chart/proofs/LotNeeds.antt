@@ -1,7 +1,7 @@
 -- What each need of the functions that bring lots of one event together asks.
 -- Assumes nothing.
 use mathlib.Core.Path.{◌≡◌, refl, sym, ap, ◌∙◌, subst}
-use mathlib.Core.Bool.{Bool, true, false}
+use mathlib.Core.Bool.{Bool, true, false, not}
 use mathlib.Core.List.{List, [], ◌∷◌, ◌++◌, append_assoc, append-nil}
 use Prim.Native.Nat.{ℕ, zero, suc, ◌+◌, ◌-◌, ◌≤◌, ◌<◌}
 use native.Mathlib.Nat.{not-suc-le-zero, le_of_suc-le-suc}
@@ -102,18 +102,13 @@ module _ (s : Text) (es : List ℕ) (i : ℕ) where
   unfolding leads
   leads_none e = rw (eq-eqb _ _ e)
 
-  module _ (n : i ≡ 0 → ⊥) (t : Bool) (q : t ≡ same (key_at 2 s (get_or es (i - 1) 0)) (key_at 2 s (get_or es i 0))) where
-    pub leads_not : t ≡ true → false ≡ leads (event_at s) es i
-    unfolding leads event_at
-    leads_not z = rw (ne_eqb _ _ n, ← q, z)
+  pub leads_here : (i ≡ 0 → ⊥) → (t : Bool) → t ≡ same (key_at 2 s (get_or es (i - 1) 0)) (key_at 2 s (get_or es i 0)) → not t ≡ leads (event_at s) es i
+  unfolding leads event_at
+  leads_here n t q = rw (ne_eqb _ _ n, ← q)
 
-    pub leads_here : t ≡ false → true ≡ leads (event_at s) es i
-    unfolding leads event_at
-    leads_here z = rw (ne_eqb _ _ n, ← q, z)
+pub ruleset for_is_first = (rules, leads_none, leads_here)
 
-pub ruleset for_is_first = (rules, leads_none, leads_not, leads_here)
-
--- PUT_LOT
+-- PUT_EACH
 
 all_at : (p : ℕ → Bool) (es : List ℕ) (j : ℕ) → all p es ≡ true → j < length es → p (get_or es j 0) ≡ true
 all_at p [] j h k = absurd (not-suc-le-zero k)
@@ -122,18 +117,6 @@ all_at p (e ∷ es) (suc j) h k = all_at p es j (both (p e) (all p es) h).1 (le_
 
 pub run_sound : (s : Text) (es : List ℕ) (j q : ℕ) → all (is_sound s) es ≡ true → j < length es → q ≡ get_or es j 0 → is_sound s q ≡ true
 run_sound s es j q h k e = ap (is_sound s) e ∙ all_at (is_sound s) es j h k
-
-pub lot_can : (s : Text) (es : List ℕ) (j q number pos : ℕ) (area : Text) → q ≡ get_or es j 0
-    → Can (shot_at s (get_or es j 0)) (spot_at (get_or es j 0) number pos) area → Can (shot_at s q) (spot_at q number pos) area
-lot_can s es j q number pos area e c = subst (λ (m : ℕ). Can (shot_at s m) (spot_at m number pos) area) (sym e) c
-
-pub lot_puts : (s : Text) (es : List ℕ) (j q number pos : ℕ) (before after : Text) (r : Spot) → q ≡ get_or es j 0
-    → Puts (shot_at s q) (spot_at q number pos) r before after → Puts (shot_at s (get_or es j 0)) (spot_at (get_or es j 0) number pos) r before after
-lot_puts s es j q number pos before after r e p = subst (λ (m : ℕ). Puts (shot_at s m) (spot_at m number pos) r before after) e p
-
-pub ruleset for_put_lot = (rules, run_sound, lot_can, lot_puts)
-
--- PUT_EACH
 
 pub record Each (s : Text) (es : List ℕ) (spot : Spot) (before : Text) (j number pos : ℕ) (area : Text) : Type 0 where
   pub going : Going (joined (shot_at s) es) spot before (joined (shot_at s) (drop j es)) number pos area
@@ -147,28 +130,34 @@ module _ (s : Text) (es : List ℕ) (spot : Spot) (before : Text) (j number pos 
     each_here : joined (shot_at s) (drop j es) ≡ shot_at s (get_or es j 0) ++ joined (shot_at s) (drop (j + 1) es)
     each_here = ap (joined (shot_at s)) (drop_here es j h)
 
-    pub each_can : Can (shot_at s (get_or es j 0)) (spot_at (get_or es j 0) number pos) area
-    each_can =
-        going_can spot before (joined (shot_at s) es) (joined (shot_at s) (drop j es)) number pos area g.going (shot_at s (get_or es j 0))
-        (joined (shot_at s) (drop (j + 1) es)) each_here (get_or es j 0)
+    module _ (q : ℕ) (e : q ≡ get_or es j 0) where
+      pub each_can : Can (shot_at s q) (spot_at q number pos) area
+      each_can =
+          subst (λ (m : ℕ). Can (shot_at s m) (spot_at m number pos) area) (sym e)
+          (going_can spot before (joined (shot_at s) es) (joined (shot_at s) (drop j es)) number pos area g.going (shot_at s (get_or es j 0))
+          (joined (shot_at s) (drop (j + 1) es)) each_here (get_or es j 0))
 
-    pub each_on : (r : Spot) (next : Text) → Puts (shot_at s (get_or es j 0)) (spot_at (get_or es j 0) number pos) r area next
-        → Each s es spot before (j + 1) r.number r.pos next
-    each_on r next u =
-        record {
-          going =
-              going_on spot before (joined (shot_at s) es) (joined (shot_at s) (drop j es)) number pos area g.going (shot_at s (get_or es j 0))
-              (joined (shot_at s) (drop (j + 1) es)) each_here (get_or es j 0) r next u;
-        }
+      pub each_on : (r : Spot) (next : Text) → Puts (shot_at s q) (spot_at q number pos) r area next → Each s es spot before (j + 1) r.number r.pos next
+      each_on r next u =
+          record {
+            going =
+                going_on spot before (joined (shot_at s) es) (joined (shot_at s) (drop j es)) number pos area g.going (shot_at s (get_or es j 0))
+                (joined (shot_at s) (drop (j + 1) es)) each_here (get_or es j 0) r next
+                (subst (λ (m : ℕ). Puts (shot_at s m) (spot_at m number pos) r area next) e u);
+          }
 
-  pub each_end : (at : ℕ) → length es ≤ j → Puts (joined (shot_at s) es) spot (spot_at at number pos) before area
-  each_end at h =
+  all_put : (at : ℕ) → length es ≤ j → Puts (joined (shot_at s) es) spot (spot_at at number pos) before area
+  all_put at h =
       going_end spot before (joined (shot_at s) es) (joined (shot_at s) (drop j es)) number pos area g.going (ap (joined (shot_at s)) (drop_past es j h)) at
 
   pub each_long : length area ≡ length before
   each_long = g.going.long
 
-pub ruleset for_put_each = (rules, each_start, each_can, each_end, each_long)
+pub each_end : (s : Text) (es : List ℕ) (spot : Spot) (before : Text) (j : ℕ) (r : Spot) (area : Text) → Each s es spot before j r.number r.pos area
+    → length es ≤ j → Puts (joined (shot_at s) es) spot r before area
+each_end s es spot before j r area g h = all_put s es spot before j r.number r.pos area g r.at h
+
+pub ruleset for_put_each = (rules, run_sound, each_start, each_can, each_end, each_long)
 
 pub ruleset for_each_again = (each_on)
 

@@ -137,8 +137,8 @@ module _ (s : Text) (spot : Spot) (before : Text) (lent : List ℕ) (at number p
     pub passing_behind : Behind s (record_end s at) places
     passing_behind = patients_behind s at number places g.ready h
 
-    pub passing_can : Can (patient_at s at) (spot_at at number pos) area
-    passing_can =
+    can_one : Can (patient_at s at) (spot_at at number pos) area
+    can_one =
         going_can spot before (in_writing_order (charted_in (drop spot.at s))) (in_writing_order (charted_in (drop at s))) number pos area g.going
         (patient_at s at) (in_writing_order (rest_at s (record_end s at))) (patient_here s at number places g.ready h) at
 
@@ -168,6 +168,10 @@ module _ (s : Text) (spot : Spot) (before : Text) (lent : List ℕ) (at number p
 
   pub passing_kept : length places ≡ length lent
   passing_kept = g.kept
+
+pub passing_can : (s : Text) (spot : Spot) (before : Text) (lent : List ℕ) (r : Spot) (area : Text) (places : List ℕ)
+    → Passing s spot before lent r.at r.number r.pos area places → r.at < length s → Can (patient_at s r.at) r area
+passing_can s spot before lent r area places g h = can_one s spot before lent r.at r.number r.pos area places g h
 
 pub ruleset for_put_patients = (rules, patients_start, passing_long, passing_kept, passing_less)
 

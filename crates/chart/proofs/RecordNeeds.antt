@@ -132,10 +132,13 @@ body_most k = go (eqb k IP) (eqb k II) (eqb k IE) (eqb k IN) (eqb k IA)
     go false false false false true = omega arith
     go false false false false false = omega arith
 
-module _ (k at : ℕ) (body before : Text) (i from pos : ℕ) (area : Text) (f : Fields k at body before i from pos area) (n : ℕ) (c : n ≡ length (widths_of k)) where
-  module _ (h : i < n) (w : ℕ) (e : w ≡ get_or (widths_of k) i 0) where
+module _ (k at : ℕ) (body before : Text) (i from pos : ℕ) (area : Text) (f : Fields k at body before i from pos area) (ws : List ℕ) (c : ws ≡ widths_of k) where
+  module _ (h : i < length ws) (w : ℕ) (q₀ : w ≡ get_or ws i 0) where
+    e : w ≡ get_or (widths_of k) i 0
+    e = q₀ ∙ ap (λ (vs : List ℕ). get_or vs i 0) c
+
     there : i < length (widths_of k)
-    there = omega (arith, h, c)
+    there = omega (arith, h, ap length c)
 
     pub fields_part : from + w ≤ length body
     fields_part = omega (arith, f.wide, e, sum_here (widths_of k) i there)
@@ -176,10 +179,10 @@ module _ (k at : ℕ) (body before : Text) (i from pos : ℕ) (area : Text) (f :
           past : pos + length (piped t) ≡ p
           past = omega (arith, v, length-append t (124 ∷ []))
 
-  module _ (h : n ≤ i) where
+  module _ (h : length ws ≤ i) where
     none : fields_left k i from body ≡ []
     unfolding fields_left
-    none = ap (joined piped) (cut_end (widths_of k) i (drop from body) (omega (arith, h, c)))
+    none = ap (joined piped) (cut_end (widths_of k) i (drop from body) (omega (arith, h, ap length c)))
 
     pub fields_end : area ≡ over_from at (fields_text k body) before
     fields_end = sym (f.area_on ∙ ap (λ (x : Text). over_from pos x area) none ∙ over_from_none pos area)

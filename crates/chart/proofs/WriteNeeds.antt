@@ -224,20 +224,26 @@ module _ (p b s a : Text) where
       flip false = refl
 
   module _ (u : Bool) (e : u ≡ is_right (request p b s [])) where
-    pub write_record : u ≡ false → Writes (request p b s a) 8 0 a
+    pub write_record : not u ≡ true → Writes (request p b s a) 8 0 a
     unfolding write
-    write_record z = rw (same_right, ← e, z)
+    write_record z = let k : u ≡ false = grind arith in rw (same_right, ← e, k)
 
-    module _ (z : u ≡ true) where
+    module _ (y : not u ≡ false) where
+      z : u ≡ true
+      z = grind arith
+
       pub write_right : is_right (request p b s []) ≡ true
       write_right = sym e ∙ z
 
       module _ (v : Bool) (f : v ≡ fits_room p b s (length a)) where
-        pub write_room : v ≡ false → Writes (request p b s a) 9 0 a
+        pub write_room : not v ≡ true → Writes (request p b s a) 9 0 a
         unfolding write
-        write_room w = rw (same_right, ← e, z, too_long, ← f, w)
+        write_room w = let k : v ≡ false = grind arith in rw (same_right, ← e, z, too_long, ← f, k)
 
-        module _ (w : v ≡ true) where
+        module _ (x : not v ≡ false) where
+          w : v ≡ true
+          w = grind arith
+
           pub write_fits : Fitting p b s a
           write_fits = record { right = sym e ∙ z; fits = sym f ∙ w }
 

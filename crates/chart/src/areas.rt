@@ -19,12 +19,9 @@ pub(crate) fn put_text(out: &mut [u8], at: usize, text: &[u8]) -> usize
     ensures out_after { out.new ≡ over_from at text.now out.old }
     ensures value { result ≡ at + length text.now }
 {
-    let mut i = 0;
-    while i < text.len() {
-        out[at + i] = text[i];
-        i += 1;
-    }
-    at + i
+    let end = at + text.len();
+    out[at..end].copy_from_slice(text);
+    end
 }
 
 // A text and a pipe.
@@ -51,13 +48,10 @@ fn put_digits(out: &mut [u8], at: usize, n: usize, long: usize)
     ensures { out.new ≡ over_from at (decimal n) out.old }
 {
     let mut rest = n;
-    let mut i = long - 1;
-    while 10 <= rest {
+    for i in (0..long).rev() {
         out[at + i] = digit(rest);
         rest /= 10;
-        i -= 1;
     }
-    out[at] = digit(rest);
 }
 
 // A number.

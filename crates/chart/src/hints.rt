@@ -1,27 +1,26 @@
 // The order of lots by their events, and where a lot stands in it: both guessed first, and tested.
-ghost use Rattle.std.specs.Prelude.{◌≡◌, true, ◌≤◌, ◌<◌, length, get_or};
+ghost use Rattle.std.specs.Prelude.{◌≡◌, true, ◌<◌, IfSome, length, get_or};
 ghost use Rattle.lines_words.specs.Words.{key_at, in_order};
 ghost use Rattle.lines_words.specs.Inside.{SameEntries};
 ghost use Rattle.chart.specs.Inside.{is_among, Sorted};
 
 use crate::arrange::arrange;
+use chart_records::NOTE_WIDTH;
 use lines_words::{EVENT, event_hash, find_entry, sort};
 
 // So few lots are sorted without more ado.
 const FEW: usize = 16;
 
-// Two II records stand so far apart at least: an II, and its IE.
-const APART: u32 = 1727;
-
-// Puts the hash of each lot's event in a room.
-fn hash_lots(chart: &[u8], lots: &[u32], room: &mut [u64])
-    requires { length lots.now ≤ length room.old }
-{
-    let mut i = 0;
-    while i < lots.len() {
-        room[i] = event_hash(chart, lots[i]);
-        i += 1;
+// Puts the hash of each lot's event in a room, as far as it goes.
+fn hash_lots(chart: &[u8], lots: &[u32], room: &mut [u64]) {
+    for (hash, lot) in room.iter_mut().zip(lots) {
+        *hash = event_hash(chart, *lot);
     }
+}
+
+// Where the room has the note of a lot.
+fn slot_of(lot: u32) -> usize {
+    house::wide(lot) / NOTE_WIDTH
 }
 
 // Arranges many lots by the hashes of their events. It only swaps them.
@@ -39,19 +38,12 @@ fn arrange_lots(chart: &[u8], lots: &mut [u32], room: &mut [u64])
     arrange(lots, &mut room[..n]);
 }
 
-// Notes a number, if there is room for it.
-fn note(room: &mut [u64], slot: usize, i: usize) {
-    if slot < room.len() {
-        room[slot] = i as u64;
-    }
-}
-
-// Notes in a room where lots stand, by their positions.
+// Notes in a room where lots stand, by their positions, as far as there is room.
 fn note_lots(lots: &[u32], room: &mut [u64]) {
-    let mut i = 0;
-    while i < lots.len() {
-        note(room, house::wide(lots[i] / APART), i);
-        i += 1;
+    for (i, lot) in lots.iter().enumerate() {
+        if let Some(note) = room.get_mut(slot_of(*lot)) {
+            *note = i as u64;
+        }
     }
 }
 
@@ -64,23 +56,19 @@ pub(crate) fn order_lots(chart: &[u8], lots: &mut [u32], room: &mut [u64])
     note_lots(lots, room);
 }
 
-// Where the notes say that a lot stands, past the last where they say nothing true.
-fn noted(lots: &[u32], hints: &[u64], lot: u32) -> usize
-    ensures { result < length lots.now → get_or lots.now result 0 ≡ lot }
+// Where the notes say that a lot stands, if it does.
+fn noted(lots: &[u32], hints: &[u64], lot: u32) -> Option<usize>
+    ensures { IfSome result (λ i. (i < length lots.now) × (get_or lots.now i 0 ≡ lot)) }
 {
-    let n = lots.len();
-    let slot = house::wide(lot / APART);
+    let slot = slot_of(lot);
     if hints.len() <= slot {
-        return n;
+        return None;
     }
     let i = hints[slot] as usize;
-    if n <= i {
-        return n;
+    if lots.len() <= i {
+        return None;
     }
-    if lots[i] == lot {
-        return i;
-    }
-    n
+    if lots[i] == lot { Some(i) } else { None }
 }
 
 // Where a lot stands among lots in order: as noted, or by a search where nothing true is noted.
@@ -90,9 +78,8 @@ pub(crate) fn index_of(chart: &[u8], lots: &[u32], hints: &[u64], lot: u32) -> u
     ensures upper_bound { result < length lots.now }
     ensures result_value { get_or lots.now result 0 ≡ lot }
 {
-    let i = noted(lots, hints, lot);
-    if i < lots.len() {
-        return i;
+    match noted(lots, hints, lot) {
+        Some(i) => i,
+        None => find_entry(chart, EVENT, lots, lot),
     }
-    find_entry(chart, EVENT, lots, lot)
 }

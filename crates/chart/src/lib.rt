@@ -12,7 +12,9 @@ mod runs;
 
 ghost use Rattle.std.specs.Prelude.{◌≡◌, []};
 ghost use Rattle.chart_definitions.specs.Submissions.{request, is_right, Writes};
+ghost use Rattle.chart.specs.Written.{number_of, answer_of, length_of};
 
+use chart_records::{RECORD, ROOM};
 use rules_forms::{is_batch, is_prefix};
 
 // Where writing stands: the position in the chart of the next record, the number that it gets, and the position of its line in the area.
@@ -23,16 +25,24 @@ struct Spot {
     pos: usize,
 }
 
-// What writing answers: 0, RECORD or ROOM; and the length of the file, 0 where it is refused.
+// Why nothing is written, by document 02's names.
 #[derive(Clone, Copy)]
-pub struct Answer {
-    pub answer: u32,
-    pub length: u32,
+pub enum Refusal {
+    Record,
+    Room,
 }
 
-const RECORD: u32 = 8;
-
-const ROOM: u32 = 9;
+impl Refusal {
+    // The number that document 02 gives a refusal.
+    pub fn number(self) -> u32
+        ensures { result ≡ number_of self }
+    {
+        match self {
+            Refusal::Record => RECORD,
+            Refusal::Room => ROOM,
+        }
+    }
+}
 
 // Whether prefix, batch number and chart are of their forms.
 fn is_right(prefix: &[u8], batch: &[u8], chart: &[u8]) -> bool
@@ -46,26 +56,16 @@ fn is_right(prefix: &[u8], batch: &[u8], chart: &[u8]) -> bool
     false
 }
 
-// Writes a submission from a chart into an area.
-pub fn write(prefix: &[u8], batch: &[u8], chart: &[u8], out: &mut [u8]) -> Answer
+// Writes a submission from a chart into an area; how long the file is.
+pub fn write(prefix: &[u8], batch: &[u8], chart: &[u8], out: &mut [u8]) -> Result<u32, Refusal>
     ensures { Writes (request prefix.now batch.now chart.now out.old)
-        result.answer result.length out.new }
+        (answer_of result) (length_of result) out.new }
 {
-    if is_right(prefix, batch, chart) {
-        if files::has_room(prefix, batch, chart, out.len()) {
-            let length = files::put_in_room(out, prefix, batch, chart);
-            return Answer {
-                answer: 0,
-                length: length as u32,
-            };
-        }
-        return Answer {
-            answer: ROOM,
-            length: 0,
-        };
+    if !is_right(prefix, batch, chart) {
+        return Err(Refusal::Record);
     }
-    Answer {
-        answer: RECORD,
-        length: 0,
+    if !files::has_room(prefix, batch, chart, out.len()) {
+        return Err(Refusal::Room);
     }
+    Ok(files::put_in_room(out, prefix, batch, chart) as u32)
 }

@@ -4,7 +4,7 @@ ghost use Rattle.house.specs.Text.{all, front, after_front, joined};
 ghost use Rattle.house.specs.Over.{over};
 ghost use Rattle.chart_definitions.specs.Charts.{charted_in, well_formed};
 ghost use Rattle.chart_definitions.specs.Lots.{of_immunization};
-ghost use Rattle.chart.specs.Inside.{shot_at, event_at, like, leads, run_of, lot_places, is_sound, is_among, lots_of, lots_in, Sorted, Ready, spot_at, Can, Puts, PutsTo};
+ghost use Rattle.chart.specs.Inside.{shot_at, event_at, like, leads, run_of, lot_places, is_sound, is_among, lots_of, lots_in, Sorted, Ready, Can, Puts, PutsTo};
 
 use crate::Spot;
 use crate::hints::{index_of, order_lots};
@@ -23,6 +23,7 @@ pub(crate) fn gather(chart: &[u8], at: usize, places: &mut [u32]) -> usize
 {
     let mut from = at;
     let mut n = 0;
+    // Not a `for`: the position jumps from record to record.
     while from < chart.len() {
         let kind = kind_at(chart, from);
         let end = record_end(chart, from);
@@ -49,41 +50,20 @@ fn is_first(chart: &[u8], lots: &[u32], i: usize) -> bool
     if i == 0 {
         return true;
     }
-    if one_key(chart, EVENT, lots[i - 1], lots[i]) {
-        return false;
-    }
-    true
-}
-
-// The lot at an index.
-fn put_lot(out: &mut [u8], chart: &[u8], number: usize, pos: usize, lots: &[u32], j: usize) -> Spot
-    requires j_in_bounds { j < length lots.now }
-    requires lots_value { all (is_sound chart.now) lots.now ≡ true }
-    requires can { Can (shot_at chart.now (get_or lots.now j 0)) (spot_at (get_or lots.now j 0) number pos) out.old }
-    ensures { Puts (shot_at chart.now (get_or lots.now j 0)) (spot_at (get_or lots.now j 0) number pos) result
-        out.old out.new }
-{
-    let at = house::wide(lots[j]);
-    put_immunization(out, chart, Spot { at, number, pos })
+    !one_key(chart, EVENT, lots[i - 1], lots[i])
 }
 
 // Lots, one after the other.
-fn put_each(out: &mut [u8], chart: &[u8], spot: Spot, lots: &[u32]) -> Spot
+fn put_each(out: &mut [u8], chart: &[u8], mut spot: Spot, lots: &[u32]) -> Spot
     requires lots_value { all (is_sound chart.now) lots.now ≡ true }
     requires can { Can (joined (shot_at chart.now) lots.now) spot out.old }
     ensures { Puts (joined (shot_at chart.now) lots.now) spot result out.old out.new }
 {
-    let at = spot.at;
-    let mut number = spot.number;
-    let mut pos = spot.pos;
-    let mut j = 0;
-    while j < lots.len() {
-        let next = put_lot(out, chart, number, pos, lots, j);
-        number = next.number;
-        pos = next.pos;
-        j += 1;
+    for lot in lots {
+        spot.at = house::wide(*lot);
+        spot = put_immunization(out, chart, spot);
     }
-    Spot { at, number, pos }
+    spot
 }
 
 // Where the lots of one event end that stand together from an index on.
@@ -95,15 +75,12 @@ fn run_end(chart: &[u8], lots: &[u32], i: usize) -> usize
         ≡ front (like (event_at chart.now) (get_or lots.now i 0)) (drop i lots.now) }
 {
     let lot = lots[i];
-    let mut j = i;
-    while j < lots.len() {
-        if one_key(chart, EVENT, lot, lots[j]) {
-            j += 1;
-        } else {
+    for j in i..lots.len() {
+        if !one_key(chart, EVENT, lot, lots[j]) {
             return j;
         }
     }
-    j
+    lots.len()
 }
 
 // The lots of one event, which stand together from an index on.
@@ -134,33 +111,29 @@ fn put_event(out: &mut [u8], chart: &[u8], spot: Spot, lots: &[u32], hints: &[u6
 }
 
 // The immunizations from a position on, by their lots in the order of their events.
-fn put_lots(out: &mut [u8], chart: &[u8], spot: Spot, lots: &[u32], hints: &[u64]) -> Spot
+fn put_lots(out: &mut [u8], chart: &[u8], mut spot: Spot, lots: &[u32], hints: &[u64]) -> Spot
     requires ready { Ready chart.now spot.at lots.now }
     requires can { Can (lots_of chart.now lots.now (lot_places spot.at (charted_in (drop spot.at chart.now)))) spot out.old }
     ensures { PutsTo chart.now
         (lots_of chart.now lots.now (lot_places spot.at (charted_in (drop spot.at chart.now))))
         (after_front of_immunization (charted_in (drop spot.at chart.now))) spot result out.old out.new }
 {
-    let mut at = spot.at;
-    let mut number = spot.number;
-    let mut pos = spot.pos;
-    while at < chart.len() {
-        let kind = kind_at(chart, at);
-        let end = record_end(chart, at);
+    // Not a `for`: the position jumps from record to record.
+    while spot.at < chart.len() {
+        let kind = kind_at(chart, spot.at);
+        let end = record_end(chart, spot.at);
         if kind == II {
-            let next = put_event(out, chart, Spot { at, number, pos }, lots, hints);
-            number = next.number;
-            pos = next.pos;
-            at = end;
+            spot = put_event(out, chart, spot, lots, hints);
+            spot.at = end;
             continue;
         }
         if kind == IE {
-            at = end;
+            spot.at = end;
             continue;
         }
-        return Spot { at, number, pos };
+        return spot;
     }
-    Spot { at, number, pos }
+    spot
 }
 
 // The immunizations from a position on; the positions of their II records are lent, and are put in order.

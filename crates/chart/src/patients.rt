@@ -70,7 +70,7 @@ fn put_patient(
 pub(crate) fn put_patients(
     out: &mut [u8],
     chart: &[u8],
-    spot: Spot,
+    mut spot: Spot,
     places: &mut [u32],
     room: &mut [u64],
 ) -> Spot
@@ -78,14 +78,9 @@ pub(crate) fn put_patients(
     requires can { Can (in_writing_order (charted_in (drop spot.at chart.now))) spot out.old }
     ensures { Puts (in_writing_order (charted_in (drop spot.at chart.now))) spot result out.old out.new }
 {
-    let mut at = spot.at;
-    let mut number = spot.number;
-    let mut pos = spot.pos;
-    while at < chart.len() {
-        let next = put_patient(out, chart, Spot { at, number, pos }, places, room);
-        at = next.at;
-        number = next.number;
-        pos = next.pos;
+    // Not a `for`: the position jumps from patient to patient.
+    while spot.at < chart.len() {
+        spot = put_patient(out, chart, spot, places, room);
     }
-    Spot { at, number, pos }
+    spot
 }

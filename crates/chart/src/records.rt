@@ -8,7 +8,7 @@ ghost use Rattle.chart.specs.Inside.{fields_text, start_text};
 
 use crate::areas::{put_byte, put_piped, put_piped_number};
 use blanks::trim;
-use chart_records::{kind_at, record_end, width_at, width_count};
+use chart_records::{kind_at, record_end, widths_of};
 use lines::{IA, IE, II, IN};
 
 // The second letter of a record's type.
@@ -55,15 +55,13 @@ fn put_fields(out: &mut [u8], at: usize, body: &[u8], kind: u8) -> usize
     ensures out_after { out.new ≡ over_from at (fields_text kind body.now) out.old }
     ensures value { result ≡ at + length (fields_text kind body.now) }
 {
-    let n = width_count(kind);
-    let mut i = 0;
+    let widths = widths_of(kind);
     let mut from = 0;
     let mut pos = at;
-    while i < n {
-        let end = from + width_at(kind, i);
+    for width in widths {
+        let end = from + *width;
         pos = put_piped(out, pos, trim(&body[from..end]));
         from = end;
-        i += 1;
     }
     pos
 }

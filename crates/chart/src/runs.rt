@@ -33,33 +33,25 @@ fn is_of(chart: &[u8], at: usize, a: u8, b: u8) -> bool
     ensures { result ≡ of_kinds a b (charted_at chart.now at) }
 {
     let kind = kind_at(chart, at);
-    if kind == a {
-        return true;
-    }
-    kind == b
+    kind == a || kind == b
 }
 
 // The records from a position on, as long as they are of two kinds.
-pub(crate) fn put_front(out: &mut [u8], chart: &[u8], spot: Spot, a: u8, b: u8) -> Spot
+pub(crate) fn put_front(out: &mut [u8], chart: &[u8], mut spot: Spot, a: u8, b: u8) -> Spot
     requires chart_value { all well_formed (charted_in (drop spot.at chart.now)) ≡ true }
     requires can { Can (front (of_kinds a b) (charted_in (drop spot.at chart.now))) spot out.old }
     ensures { PutsTo chart.now (front (of_kinds a b) (charted_in (drop spot.at chart.now)))
         (after_front (of_kinds a b) (charted_in (drop spot.at chart.now))) spot result out.old out.new }
 {
-    let mut at = spot.at;
-    let mut number = spot.number;
-    let mut pos = spot.pos;
-    while at < chart.len() {
-        if is_of(chart, at, a, b) {
-            let next = put_next(out, chart, Spot { at, number, pos });
-            at = next.at;
-            number = next.number;
-            pos = next.pos;
+    // Not a `for`: the position jumps from record to record.
+    while spot.at < chart.len() {
+        if is_of(chart, spot.at, a, b) {
+            spot = put_next(out, chart, spot);
         } else {
-            return Spot { at, number, pos };
+            return spot;
         }
     }
-    Spot { at, number, pos }
+    spot
 }
 
 // An immunization: the II at a position, and its IE.

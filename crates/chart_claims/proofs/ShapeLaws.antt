@@ -16,7 +16,6 @@ use Rattle.writing.specs.Writing.{decimal}
 use Rattle.lines.specs.Lines.{pipe, Line, lines_of}
 use Rattle.lines.specs.Records.{IV, IH, IF, letter_kind, kind_of, record_of, count_of}
 use Rattle.lines.specs.Shape.{follows, cause1, printable, cause2, pipe_last, cause3, cause4, cause5, cause6, cause_of, cause7, shape_from, shape_of}
-use Rattle.lines.specs.declared.Shape.TheVariants.{Right}
 use Rattle.chart_definitions.specs.Charts.{Charted, written_fields, is_field_byte, well_formed, ordered}
 use Rattle.chart_definitions.specs.Submissions.{piped, line_text, type_text, numbered_fields, record_text, records_text, version_fields, header_fields, footer_fields, other_lines, submission_of, records_of, file_of}
 use Rattle.chart_definitions.proofs.FollowLaws.{ordered_here, ordered_rest}
@@ -25,6 +24,7 @@ use Rattle.chart_claims.proofs.FieldLaws.{plain_fields, numbered_plain}
 use Rattle.chart_claims.proofs.LineLaws.{fields_back, text_plain, line_back}
 use Rattle.chart_claims.proofs.RightLaws.{is_before, first_kind, kind_before, kind_back, kind_known, given_count, right_request, formed_plain, prefix_plain, batch_plain}
 use Rattle.chart_claims.proofs.ReadLaws.{parts, version_plain, header_plain, footer_plain}
+use Rattle.std.proofs.Common.{None, Ok}
 
 all_printable : (t : Text) → all (within 32 126) t ≡ true → printable t ≡ true
 unfolding printable
@@ -59,7 +59,7 @@ module _ (n p k : ℕ) (f : Text) (fs : List Text) (s : Text) (e : plain_fields 
   unfolding record_of
   here_kind = ap (λ (gs : List Text). kind_of (get_or gs 0 [])) (fields_back (f ∷ fs) e) ∙ named
 
-  no_cause : cause_of p here ≡ 0
+  no_cause : cause_of p here ≡ None
   unfolding cause_of cause1 cause2 cause3 cause4 cause5 cause6
   no_cause =
       rw (all_printable (joined piped (f ∷ fs)) (text_plain (f ∷ fs) e), closed f fs, here_kind, known, fields_back (f ∷ fs) e, eq-eqb (suc (length fs)) (count_of k) counted, placed)
@@ -70,8 +70,8 @@ module _ (n p k : ℕ) (f : Text) (fs : List Text) (s : Text) (e : plain_fields 
 
 -- the records, and what follows them
 shape_records : (m n p : ℕ) (rs : List Charted) (s : Text) → is_before p ≡ true → ordered p rs ≡ true → all well_formed rs ≡ true
-    → ((i q : ℕ) → follows q IF ≡ true → shape_from i q (lines_of s) ≡ Right)
-    → shape_from n p (lines_of (records_text m rs ++ s)) ≡ Right
+    → ((i q : ℕ) → follows q IF ≡ true → shape_from i q (lines_of s) ≡ Ok tt)
+    → shape_from n p (lines_of (records_text m rs ++ s)) ≡ Ok tt
 unfolding records_text record_text ordered numbered_fields
 shape_records m n p [] s b o w rest = rest n p o
 shape_records m n p (r ∷ rs) s b o w rest =
@@ -94,19 +94,19 @@ starts : (follows 0 IV ≡ true) × (follows IV IH ≡ true)
 unfolding follows
 starts = (refl, refl)
 
-ended : (n : ℕ) → shape_from n IF (lines_of []) ≡ Right
+ended : (n : ℕ) → shape_from n IF (lines_of []) ≡ Ok tt
 unfolding shape_from cause7 lines_of
 ended n = refl
 
 module _ (prefix batch : Text) (rs : List Charted)
     (p : all is_field_byte prefix ≡ true) (b : all is_field_byte batch ≡ true) (o : ordered IH rs ≡ true) (w : all well_formed rs ≡ true) where
-  footer : (i q : ℕ) → follows q IF ≡ true → shape_from i q (lines_of (line_text (footer_fields (length rs + other_lines)))) ≡ Right
+  footer : (i q : ℕ) → follows q IF ≡ true → shape_from i q (lines_of (line_text (footer_fields (length rs + other_lines)))) ≡ Ok tt
   footer i q f =
       ap (λ (t : Text). shape_from i q (lines_of t)) (sym (append-nil (line_text (footer_fields (length rs + other_lines)))))
       ∙ shape_line i q IF (bytes "IF") (decimal (length rs + other_lines) ∷ bytes "0" ∷ []) [] (footer_plain (length rs + other_lines)) kinds.2 refl counts.2 f
       ∙ ended (i + 1)
 
-  pub submission_shape : shape_of (submission_of prefix batch rs) ≡ Right
+  pub submission_shape : shape_of (submission_of prefix batch rs) ≡ Ok tt
   unfolding submission_of shape_of
   submission_shape =
       ap (λ (t : Text). shape_from 1 0 (lines_of t)) (parts (line_text version_fields) (line_text (header_fields prefix batch)) (records_text 1 rs) (line_text (footer_fields (length rs + other_lines))))

@@ -1,10 +1,9 @@
 -- What is claimed of reading a written file, as types; the proofs stand in proofs/. What is quoted here is from document 02, request 3.
 -- Assumes nothing.
-use Rattle.std.specs.Prelude.{ℕ, suc, ◌+◌, ◌≡◌, true, List, [], ◌∷◌, ◌++◌, length}
+use Rattle.std.specs.Prelude.{Ok, ℕ, suc, ◌+◌, ◌≡◌, true, List, [], ◌∷◌, ◌++◌, length}
 use Rattle.house.specs.Text.{Text}
 use Rattle.lines.specs.Records.{Rec, IV, IH, IF, recs}
 use Rattle.lines.specs.Shape.{shape_of}
-use Rattle.lines.specs.declared.Shape.TheVariants.{Right}
 use Rattle.chart_definitions.specs.Charts.{Charted}
 use Rattle.chart_definitions.specs.Submissions.{numbered_fields, version_fields, header_fields, footer_fields, other_lines, Request, records_of, file_of, is_right}
 
@@ -30,4 +29,4 @@ ReadBack = (x : Request) → is_right x ≡ true → recs (file_of x) ≡ submis
 
 -- and it is a submission
 abbrev pub ShapeRight : Type 0
-ShapeRight = (x : Request) → is_right x ≡ true → shape_of (file_of x) ≡ Right
+ShapeRight = (x : Request) → is_right x ≡ true → shape_of (file_of x) ≡ Ok tt

@@ -1,16 +1,16 @@
--- What each need of `lifted`, `is_field_bytes`, `is_right_at` and `is_chart` asks.
+-- What each need of `lifted`, `form_of`, `is_field_bytes`, `is_right_at` and `is_chart` asks.
 -- Assumes nothing.
-use mathlib.Core.Path.{◌≡◌, refl, ◌∙◌}
+use mathlib.Core.Path.{◌≡◌, refl, sym, ◌∙◌}
 use mathlib.Core.Bool.{Bool, true, false, not, cond, ◌&&◌}
 use mathlib.Core.List.{List, [], ◌∷◌}
 use Prim.Native.Nat.{ℕ, ◌+◌, ◌-◌, ◌≤◌, ◌<◌}
 use native.Mathlib.Omega.{arith}
 use borrow.Author.Rules.{rules}
-use borrow.Author.Tests.{eq-eqb, ne_eqb, eqb-true, lt-ltb, le-ltb, ltb-true, ltb-false, le-leb, lt-leb}
+use borrow.Author.Tests.{eq-eqb, ne_eqb, eqb-true, eqb-false, lt-ltb, le-ltb, ltb-true, ltb-false, le-leb, lt-leb}
 use lib.Dec.{eqb, ltb, leb}
 use lib.ListN.{length, get_or, take, drop, length-take, length-drop}
 use lib.Seq.{length-take-le}
-use Rattle.house.specs.Text.{Text, all}
+use Rattle.house.specs.Text.{Text, all, is_blank}
 use Rattle.house.specs.Numbers.{lesser_of, greater_of}
 use Rattle.house.proofs.Small.{clash}
 use Rattle.house.proofs.Suffix.{drop_here, drop_past}
@@ -20,7 +20,7 @@ use Rattle.lines.specs.Records.{IH, IF}
 use Rattle.lines.specs.Shape.{follows}
 use Rattle.chart_definitions.specs.Charts.{Charted, record_kind, body_width, charted_in, is_field_byte, well_formed, ordered, is_chart}
 use Rattle.chart_records.specs.Reading.{charted_at, record_end, right_after}
-use Rattle.chart_records.specs.Inside.{lifted_of, fields_in, right_from}
+use Rattle.chart_records.specs.Inside.{lifted_of, form_of, form_in, right_from}
 use Rattle.chart_records.proofs.ChartLaws.{charted_end, charted_on, at_kind, end_within, end_falls}
 
 -- lifted
@@ -35,7 +35,7 @@ module _ (b : ℕ) where
 
 pub ruleset for_lifted = (rules, lifted_pipe, lifted_other)
 
--- is_field_bytes: a byte by two bounds
+-- form_of: a byte by two bounds
 pub by_bounds : (b : ℕ) → is_field_byte b ≡ cond (ltb b 32) false (cond (ltb 126 (lifted_of b)) false true)
 unfolding is_field_byte lifted_of
 by_bounds b = go (eqb b pipe) refl (ltb b 32) refl (ltb 126 b) refl
@@ -47,41 +47,110 @@ by_bounds b = go (eqb b pipe) refl (ltb b 32) refl (ltb 126 b) refl
     go false e false f true g = rw (le-leb 32 b (ltb-false b 32 f), lt-leb b 126 (ltb-true 126 b g), g)
     go false e false f false g = rw (le-leb 32 b (ltb-false b 32 f), le-leb b 126 (ltb-false 126 b g), g)
 
-in_turn : (p q u v w : Bool) → cond p false (cond q false (cond u false (cond v false true) && w)) ≡ cond (either p u) false (cond (either q v) false w)
+-- and a blank
+blank_bounds : (b : ℕ) → is_blank b ≡ cond (ltb b 32) false (cond (ltb 32 (lifted_of b)) false true)
+unfolding lifted_of
+blank_bounds b = go (eqb b pipe) refl (ltb b 32) refl (ltb 32 b) refl
+  where
+    go : (t : Bool) → eqb b pipe ≡ t → (u : Bool) → ltb b 32 ≡ u → (v : Bool) → ltb 32 b ≡ v
+        → eqb b 32 ≡ cond u false (cond (ltb 32 (cond t 255 b)) false true)
+    go t e true f v g = ne_eqb b 32 (λ z. let h : b < 32 = ltb-true b 32 f in omega arith)
+    go true e false f v g = ne_eqb b 32 (λ z. let k : b ≡ 124 = eqb-true b pipe e in omega arith)
+    go false e false f true g = rw g (ne_eqb b 32 (λ z. let h : 32 < b = ltb-true 32 b g in omega arith))
+    go false e false f false g = rw g (eq-eqb b 32 (omega (arith, ltb-false b 32 f, ltb-false 32 b g)))
+
+in_turn : (p q o u v x w z : Bool)
+    → ◌≡◌ {A = ℕ} (cond p 0 (cond q 0 (cond (cond u false (cond v false true) && w) (cond o 2 (cond (cond u false (cond x false true) && z) 1 2)) 0)))
+    (cond (either p u) 0 (cond (either q v) 0 (cond w (cond (either o x) 2 (cond z 1 2)) 0)))
 unfolding either
-in_turn true q u v w = refl
-in_turn false true true v w = refl
-in_turn false true false v w = refl
-in_turn false false true v w = refl
-in_turn false false false true w = refl
-in_turn false false false false w = refl
+in_turn true q o u v x w z = refl
+in_turn false true o true v x w z = refl
+in_turn false false o true v x w z = refl
+in_turn false true o false v x w z = refl
+in_turn false false o false true x w z = refl
+in_turn false false o false false x false z = refl
+in_turn false false true false false x true z = refl
+in_turn false false false false false true true z = refl
+in_turn false false false false false false true z = refl
 
-pub fields_start : (t : Text) → all is_field_byte t ≡ fields_in 32 126 (drop 0 t)
-unfolding fields_in
-fields_start t = refl
+pub form_start : (t : Text) → form_of t ≡ form_in 32 32 (drop 0 t)
+unfolding form_of form_in
+form_start t = refl
 
-module _ (t : Text) (i l h : ℕ) (x : Bool) (inv : x ≡ fields_in l h (drop i t)) where
-  pub fields_on : (m f n : ℕ) → i < length t → m ≡ lesser_of l (get_or t i 0) → f ≡ lifted_of (get_or t i 0) → n ≡ greater_of h f → x ≡ fields_in m n (drop (i + 1) t)
-  unfolding fields_in
-  fields_on m f n k d e g =
+module _ (t : Text) (i l h x : ℕ) (inv : x ≡ form_in l h (drop i t)) where
+  pub form_on : (m f n : ℕ) → i < length t → m ≡ lesser_of l (get_or t i 0) → f ≡ lifted_of (get_or t i 0) → n ≡ greater_of h f → x ≡ form_in m n (drop (i + 1) t)
+  unfolding form_in
+  form_on m f n k d e g =
       inv
-      ∙ rw (drop_here t i k, by_bounds (get_or t i 0), d, g, lesser_low 32, greater_high 126, e)
-      (in_turn (ltb l 32) (ltb 126 h) (ltb (get_or t i 0) 32) (ltb 126 (lifted_of (get_or t i 0))) (all is_field_byte (drop (i + 1) t)))
+      ∙ rw (drop_here t i k, by_bounds (get_or t i 0), blank_bounds (get_or t i 0), d, g, lesser_low 32, greater_high 126, greater_high 32, e)
+      (in_turn (ltb l 32) (ltb 126 h) (ltb 32 h) (ltb (get_or t i 0) 32) (ltb 126 (lifted_of (get_or t i 0))) (ltb 32 (lifted_of (get_or t i 0)))
+      (all is_field_byte (drop (i + 1) t)) (all is_blank (drop (i + 1) t)))
 
   module _ (k : length t ≤ i) where
-    pub fields_low : l < 32 → false ≡ x
-    unfolding fields_in
-    fields_low m = rw (inv, lt-ltb _ _ m)
+    pub form_low : l < 32 → 0 ≡ x
+    unfolding form_in
+    form_low m = rw (inv, lt-ltb _ _ m)
 
-    pub fields_high : 32 ≤ l → leb h 126 ≡ x
-    unfolding fields_in
-    fields_high m = rw (inv, le-ltb _ _ m, drop_past t i k) (go (ltb 126 h) refl)
-      where
-        go : (u : Bool) → ltb 126 h ≡ u → leb h 126 ≡ cond u false true
-        go true e = lt-leb h 126 (ltb-true 126 h e)
-        go false e = le-leb h 126 (ltb-false 126 h e)
+    pub form_high : 32 ≤ l → 126 < h → 0 ≡ x
+    unfolding form_in
+    form_high m n = rw (inv, le-ltb _ _ m, lt-ltb _ _ n)
 
-pub ruleset for_is_field_bytes = (rules, fields_start, fields_on, fields_low, fields_high)
+    pub form_text : 32 ≤ l → h ≤ 126 → 32 < h → 2 ≡ x
+    unfolding form_in
+    form_text m n o = rw (inv, le-ltb _ _ m, le-ltb _ _ n, lt-ltb _ _ o, drop_past t i k)
+
+    pub form_blank : 32 ≤ l → h ≤ 126 → h ≤ 32 → 1 ≡ x
+    unfolding form_in
+    form_blank m n o = rw (inv, le-ltb _ _ m, le-ltb _ _ n, le-ltb _ _ o, drop_past t i k)
+
+pub ruleset for_form_of = (rules, form_start, form_on, form_low, form_high, form_text, form_blank)
+
+-- what a form tells
+form_is : (t : Text) → form_of t ≡ cond (all is_field_byte t) (cond (all is_blank t) 1 2) 0
+unfolding form_of
+form_is t = refl
+
+module _ (t : Text) (f : ℕ) (ef : f ≡ form_of t) where
+  pub form_wrong : f ≡ 0 → all is_field_byte t ≡ false
+  form_wrong z = go (all is_field_byte t) (all is_blank t) (sym z ∙ ef ∙ form_is t)
+    where
+      go : (u v : Bool) → ◌≡◌ {A = ℕ} 0 (cond u (cond v 1 2) 0) → u ≡ false
+      go true true e = clash (omega (arith, e))
+      go true false e = clash (omega (arith, e))
+      go false v e = refl
+
+  pub form_right : (f ≡ 0 → ⊥) → all is_field_byte t ≡ true
+  form_right n = go (all is_field_byte t) (ef ∙ form_is t)
+    where
+      go : (u : Bool) → f ≡ cond u (cond (all is_blank t) 1 2) 0 → u ≡ true
+      go true e = refl
+      go false e = absurd (n e)
+
+  pub form_blanks : f ≡ 1 → (all is_field_byte t ≡ true) × (all is_blank t ≡ true)
+  form_blanks z = go (all is_field_byte t) (all is_blank t) (sym z ∙ ef ∙ form_is t)
+    where
+      go : (u v : Bool) → ◌≡◌ {A = ℕ} 1 (cond u (cond v 1 2) 0) → (u ≡ true) × (v ≡ true)
+      go true true e = (refl, refl)
+      go true false e = clash (omega (arith, e))
+      go false v e = clash (omega (arith, e))
+
+  pub form_others : (f ≡ 0 → ⊥) → (f ≡ 1 → ⊥) → (all is_field_byte t ≡ true) × (all is_blank t ≡ false)
+  form_others m n = go (all is_field_byte t) (all is_blank t) (ef ∙ form_is t)
+    where
+      go : (u v : Bool) → f ≡ cond u (cond v 1 2) 0 → (u ≡ true) × (v ≡ false)
+      go true true e = absurd (n e)
+      go true false e = (refl, refl)
+      go false v e = absurd (m e)
+
+-- is_field_bytes
+pub bytes_are : (t : Text) (f : ℕ) → f ≡ form_of t → not (eqb f 0) ≡ all is_field_byte t
+bytes_are t f e = go (eqb f 0) refl
+  where
+    go : (v : Bool) → eqb f 0 ≡ v → not v ≡ all is_field_byte t
+    go true z = sym (form_wrong t f e (eqb-true f 0 z))
+    go false z = sym (form_right t f e (eqb-false f 0 z))
+
+pub ruleset for_is_field_bytes = (rules, bytes_are)
 
 -- is_right_at
 and-false : (u : Bool) → false ≡ (u && false)

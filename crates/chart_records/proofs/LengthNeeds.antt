@@ -1,4 +1,4 @@
--- What each need of `type_length`, `field_end_lem`, `field_length`, `fields_length`, `digits`, `given_length`, `record_length` and `fits` asks.
+-- What each need of `field_length`, `fields_length`, `digits`, `given_length`, `record_length` and `fits` asks.
 -- Assumes nothing.
 use mathlib.Core.Path.{◌≡◌, refl, sym, ap, ◌∙◌}
 use mathlib.Core.Bool.{Bool, true, false}
@@ -6,7 +6,7 @@ use mathlib.Core.List.{List, [], ◌∷◌, ◌++◌}
 use Prim.Native.Nat.{ℕ, zero, suc, ◌+◌, ◌-◌, ◌≤◌, ◌<◌}
 use native.Mathlib.Omega.{arith}
 use borrow.Author.Rules.{rules}
-use borrow.Author.Tests.{ne_eqb, lt-leb, le-leb, leb-true, leb-false}
+use borrow.Author.Tests.{lt-leb, le-leb, leb-true, leb-false}
 use lib.Dec.{leb}
 use lib.ListN.{length, get_or, take, drop, length-append, length-take, length-drop}
 use Rattle.house.specs.Text.{Text, joined}
@@ -15,49 +15,13 @@ use Rattle.house.proofs.Suffix.{drop_past}
 use Rattle.blanks.specs.Blanks.{without_last_blanks, trimmed}
 use Rattle.blanks.proofs.TrimLaws.{last_short, trimmed_short}
 use Rattle.writing.specs.Writing.{decimal}
-use Rattle.lines.specs.Records.{IP, II, IE, IN, IA}
 use Rattle.chart_definitions.specs.Charts.{Charted, record_kind, widths_of, body_width, charted_in, cut}
 use Rattle.chart_definitions.specs.Submissions.{piped, type_text, line_text, record_text, records_text, footer_fields}
 use Rattle.chart_records.specs.Reading.{charted_at, record_end, fits_in}
-use Rattle.chart_records.specs.Inside.{field_end, cut_length, given_length, rest_length, rest_fits}
+use Rattle.chart_records.specs.Inside.{cut_length, given_length, rest_length, rest_fits}
 use Rattle.chart_records.proofs.GivenLaws.{cut_given}
 use Rattle.chart_records.proofs.ChartLaws.{charted_end, charted_on, at_kind, end_within, end_behind, end_falls, wide}
 use Rattle.chart_records.proofs.LengthLaws.{cut_length_end, cut_length_here, record_length, footer_length, number_few}
-
--- type_length
-module _ (k : ℕ) where
-  pub type_patient : k ≡ IP → 2 ≡ length (type_text k)
-  unfolding type_text
-  type_patient e = rw e
-
-  pub type_immunization : k ≡ II → 2 ≡ length (type_text k)
-  unfolding type_text
-  type_immunization e = rw e
-
-  pub type_count : k ≡ IE → 2 ≡ length (type_text k)
-  unfolding type_text
-  type_count e = rw e
-
-  pub type_not_immunized : k ≡ IN → 2 ≡ length (type_text k)
-  unfolding type_text
-  type_not_immunized e = rw e
-
-  pub type_antigen : k ≡ IA → 2 ≡ length (type_text k)
-  unfolding type_text
-  type_antigen e = rw e
-
-  pub type_none : (k ≡ IP → ⊥) → (k ≡ II → ⊥) → (k ≡ IE → ⊥) → (k ≡ IN → ⊥) → (k ≡ IA → ⊥) → 0 ≡ length (type_text k)
-  unfolding type_text
-  type_none p i e n a = simp (ne_eqb _ _ p, ne_eqb _ _ i, ne_eqb _ _ e, ne_eqb _ _ n, ne_eqb _ _ a)
-
-pub ruleset for_type_length = (rules, type_patient, type_immunization, type_count, type_not_immunized, type_antigen, type_none)
-
--- field_end
-pub field_end_lem : (k i w r at : ℕ) (t : Text) → w ≡ get_or (widths_of k) i 0 → r ≡ lesser_of (at + w) (length t) → r ≡ field_end (widths_of k) i t at
-unfolding field_end
-field_end_lem k i w r at t e f = f ∙ ap (λ (n : ℕ). lesser_of (at + n) (length t)) e
-
-pub ruleset for_field_end = (rules, field_end_lem)
 
 -- field_length
 module _ (t f : Text) (at end : ℕ) (e : f ≡ trimmed (take (end - at) (drop at t))) where
@@ -84,41 +48,38 @@ unfolding cut_length trimmed without_last_blanks
 pipes_alone [] = refl
 pipes_alone (w ∷ ws) = rw (empty_take w, empty_drop w) (ap suc (pipes_alone ws))
 
-pub fields_start : (ws : List ℕ) (t given : Text) → given ≡ without_last_blanks t → cut_length ws t ≡ 0 + cut_length (drop 0 ws) (drop 0 given)
+-- of what is given as much as of all
+given_same : (ws : List ℕ) (t given : Text) → given ≡ without_last_blanks t → cut_length ws t ≡ cut_length ws given
 unfolding cut_length
-fields_start ws t given e =
-    let q : length (joined piped (cut ws given)) ≡ length (joined piped (cut ws t)) =
-    ap (λ (u : Text). length (joined piped (cut ws u))) e ∙ ap (λ (ts : List Text). length (joined piped ts)) (cut_given ws t) in
-    omega (arith, q)
+given_same ws t given e =
+    sym (ap (λ (u : Text). length (joined piped (cut ws u))) e ∙ ap (λ (ts : List Text). length (joined piped ts)) (cut_given ws t))
 
-module _ (t given : Text) (e : given ≡ without_last_blanks t) (at i long c : ℕ) (h : at ≤ length given) (l : long ≤ at + i) (k : i ≤ c) (f : c ≤ 25) where
-  pub few_rest : long + (c - i) ≤ length t + 25
-  few_rest = omega (arith, ap length e, last_short t, h, l, k, f)
+-- ws are those of kind k; long counts the pipes of all fields, and the bytes of those before number i
+module _ (k : ℕ) (ws : List ℕ) (ew : ws ≡ widths_of k) where
+  pub fields_start : (t given : Text) → given ≡ without_last_blanks t → cut_length (widths_of k) t + length ws ≡ length ws + cut_length (drop 0 ws) (drop 0 given)
+  fields_start t given e = omega (arith, given_same (widths_of k) t given e, ap (λ (vs : List ℕ). cut_length vs given) ew)
 
+module _ (t given : Text) (e : given ≡ without_last_blanks t) (at long c : ℕ) (h : at ≤ length given) (l : long ≤ at + c) (f : c ≤ 25) where
   pub few_end : long ≤ length t + 25
-  few_end = omega (arith, ap length e, last_short t, h, l, k, f)
+  few_end = omega (arith, ap length e, last_short t, h, l, f)
 
-module _ (ws : List ℕ) (t : Text) (i at long x : ℕ) (inv : x ≡ long + cut_length (drop i ws) (drop at t)) where
-  pub fields_on : (end c f : ℕ) → at ≤ length t → c ≡ length ws → i < c → end ≡ field_end ws i t at
-      → f ≡ length (trimmed (take (end - at) (drop at t))) → x ≡ long + (f + 1) + cut_length (drop (i + 1) ws) (drop end t)
-  unfolding field_end
-  fields_on end c f h ec k ee ef =
-      let l : i < length ws = omega (arith, ec) in
+module _ (ws : List ℕ) (t : Text) (i at long x : ℕ) (inv : x + (length ws - i) ≡ long + cut_length (drop i ws) (drop at t)) where
+  pub fields_on : (end f : ℕ) → at ≤ length t → i < length ws → end ≡ lesser_of (at + get_or ws i 0) (length t)
+      → f ≡ length (trimmed (take (end - at) (drop at t))) → x + (length ws - (i + 1)) ≡ long + f + cut_length (drop (i + 1) ws) (drop end t)
+  fields_on end f h l ee ef =
       let p = wide t at (get_or ws i 0) end h ee in
       let q : f ≡ length (trimmed (take (get_or ws i 0) (drop at t))) = ef ∙ ap (λ (u : Text). length (trimmed u)) p.0 in
-      inv
-      ∙ ap (λ (n : ℕ). long + n) (cut_length_here ws i t at l)
-      ∙ rw (p.1, q) (omega arith)
+      rw p.1 (omega (arith, inv, q, cut_length_here ws i t at l))
 
-  pub fields_rest : (c : ℕ) → c ≡ length ws → i < c → length t ≤ at → long + (c - i) ≡ x
-  fields_rest c ec k h =
+  pub fields_rest : i < length ws → length t ≤ at → long ≡ x
+  fields_rest k h =
       let e : cut_length (drop i ws) (drop at t) ≡ length (drop i ws) = rw (drop_past t at h) (pipes_alone (drop i ws)) in
-      omega (arith, inv, ec, e, length-drop i ws)
+      omega (arith, inv, e, length-drop i ws)
 
-  pub fields_end : (c : ℕ) → c ≡ length ws → c ≤ i → long ≡ x
-  fields_end c ec k = let l : length ws ≤ i = omega (arith, ec) in omega (arith, inv, cut_length_end ws i (drop at t) l)
+  pub fields_end : length ws ≤ i → long ≡ x
+  fields_end l = omega (arith, inv, cut_length_end ws i (drop at t) l)
 
-pub ruleset for_fields_length = (rules, fields_start, few_rest, few_end, fields_on, fields_rest, fields_end)
+pub ruleset for_fields_length = (rules, fields_start, few_end, fields_on, fields_rest, fields_end)
 
 -- digits
 pub digits_few : (n r : ℕ) → n < 18446744073709551616 → r ≡ length (decimal n) → r ≤ 20

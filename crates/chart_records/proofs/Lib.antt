@@ -5,7 +5,6 @@ pub mod LengthLaws
 pub mod NoteLaws
 -- What the functions' own needs ask
 mod KindNeeds
-mod WidthNeeds
 mod FormNeeds
 mod LengthNeeds
 mod GivenNeeds

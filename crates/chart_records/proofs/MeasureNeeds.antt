@@ -3,6 +3,7 @@
 use mathlib.Core.Path.{◌≡◌, refl, sym, ap, ◌∙◌}
 use mathlib.Core.Bool.{Bool, true, false, cond}
 use mathlib.Core.List.{List, [], ◌∷◌}
+use Rattle.std.specs.Prelude.{Option, Some, None, SomeIff}
 use Prim.Native.Nat.{ℕ, ◌+◌, ◌-◌, ◌≤◌, ◌<◌}
 use native.Mathlib.Omega.{arith}
 use borrow.Author.Rules.{rules}
@@ -16,94 +17,90 @@ use Rattle.lines.specs.Records.{IH, IF}
 use Rattle.lines.specs.Shape.{follows}
 use Rattle.chart_definitions.specs.Charts.{Charted, record_kind, body_width, charted_in, well_formed, is_chart}
 use Rattle.chart_definitions.specs.Submissions.{record_text, RECORD, ROOM}
-use Rattle.chart_records.specs.declared.Spare.{Spare}
 use Rattle.chart_records.specs.Reading.{charted_at, record_end, right_after, fits_in, measured, note_of, notes_from, notes_of}
-use Rattle.chart_records.specs.Inside.{given_end, note_if, right_from, rest_length, rest_fits, spare, spare_after, answer_of, measured_from}
+use Rattle.chart_records.specs.Inside.{given_end, note_if, right_from, rest_length, rest_fits, left_after, left_fits, answer_of, measured_from}
 use Rattle.chart_records.proofs.ChartLaws.{charted_end, charted_on, at_kind, end_within, end_behind, end_falls}
 use Rattle.chart_records.proofs.FormNeeds.{right_cons, right_none}
 use Rattle.chart_records.proofs.LengthNeeds.{rest_none, rest_short, rest_on}
 use Rattle.chart_records.proofs.NoteLaws.{end_whole, given_from, note_given, note_long, notes_cons, notes_wrong, notes_none}
 
 -- take_off
-pub off_over : (left k : ℕ) (over : Bool) → over ≡ true → spare 0 true ≡ spare_after left over k
-unfolding spare_after
-off_over left k over e = rw e
+pub off_none : (left : Option ℕ) (k : ℕ) → left ≡ None → None ≡ left_after left k
+unfolding left_after
+off_none left k e = rw e
 
-module _ (left k : ℕ) (over : Bool) (e : over ≡ false) (long : ℕ) (el : long ≡ k) where
-  pub off_now : left < long → spare 0 true ≡ spare_after left over k
-  unfolding spare_after
-  off_now h = rw (e, ← el, lt-ltb left long h)
+pub off_some : (o r : Option ℕ) (left k long : ℕ) → o ≡ Some left → long ≡ k → SomeIff r (long ≤ left) (left - long) → r ≡ left_after o k
+unfolding left_after
+off_some o None left k long e el n = let h : left < long = omega (arith, n) in rw (e, ← el, lt-ltb left long h)
+off_some o (Some x) left k long e el q = rw (e, ← el, le-ltb left long q.0, q.1)
 
-  pub off_on : long ≤ left → spare (left - long) false ≡ spare_after left over k
-  unfolding spare_after
-  off_on h = rw (e, ← el, le-ltb left long h)
-
-pub ruleset for_take_off = (rules, off_over, off_now, off_on)
+pub ruleset for_take_off = (rules, off_none, off_some)
 
 -- answer
-module _ (right over : Bool) (n left : ℕ) where
-  pub answer_over : (r : ℕ) → over ≡ true → r ≡ cond right ROOM RECORD → r ≡ answer_of right n left over
-  unfolding answer_of
-  answer_over r o e = e ∙ rw o
+module _ (right : Bool) (n : ℕ) (o : Option ℕ) where
+  pub answer_over : (r : ℕ) → o ≡ None → r ≡ cond right ROOM RECORD → r ≡ answer_of right n o
+  unfolding answer_of left_fits
+  answer_over r z e = e ∙ rw z
 
-  pub answer_record : right ≡ false → 8 ≡ answer_of right n left over
+  pub answer_record : right ≡ false → 8 ≡ answer_of right n o
   unfolding answer_of
   answer_record z = rw z
 
-  module _ (z : right ≡ true) (o : over ≡ false) (d : ℕ) (ed : d ≡ length (decimal (n + 2))) where
-    pub answer_short : left < d + 7 → 9 ≡ answer_of right n left over
-    unfolding answer_of rest_fits
-    answer_short h = rw (z, o, rest_none n, ← ed, lt-leb (d + 7) left h)
+  module _ (left : ℕ) (eo : o ≡ Some left) (z : right ≡ true) (d : ℕ) (ed : d ≡ length (decimal (n + 2))) where
+    pub answer_short : left < d + 7 → 9 ≡ answer_of right n o
+    unfolding answer_of left_fits rest_fits
+    answer_short h = rw (eo, z, rest_none n, ← ed, lt-leb (d + 7) left h)
 
-    pub answer_fits : d + 7 ≤ left → 0 ≡ answer_of right n left over
-    unfolding answer_of rest_fits
-    answer_fits h = rw (z, o, rest_none n, ← ed, le-leb (d + 7) left h)
+    pub answer_fits : d + 7 ≤ left → 0 ≡ answer_of right n o
+    unfolding answer_of left_fits rest_fits
+    answer_fits h = rw (eo, z, rest_none n, ← ed, le-leb (d + 7) left h)
 
 pub ruleset for_answer = (rules, answer_over, answer_record, answer_short, answer_fits)
 
 -- where no record is left, and where one is not right
-answer_end : (p n left : ℕ) (over : Bool) → measured_from p n left over [] ≡ answer_of (follows p IF) n left over
+answer_end : (p n : ℕ) (left : Option ℕ) → measured_from p n left [] ≡ answer_of (follows p IF) n left
 unfolding measured_from answer_of
-answer_end p n left over = rw (right_none p)
+answer_end p n left = rw (right_none p)
 
-answer_wrong : (n left : ℕ) (over : Bool) → answer_of false n left over ≡ RECORD
+answer_wrong : (n : ℕ) (left : Option ℕ) → answer_of false n left ≡ RECORD
 unfolding answer_of
-answer_wrong n left over = refl
+answer_wrong n left = refl
 
 -- measure: the record at a position
-module _ (p n left : ℕ) (over : Bool) (r : Charted) (rs : List Charted) where
-  measured_wrong : right_after p r ≡ false → measured_from p n left over (r ∷ rs) ≡ RECORD
+left_cons : (n : ℕ) (left : Option ℕ) (r : Charted) (rs : List Charted)
+    → left_fits n left (r ∷ rs) ≡ left_fits (n + 1) (left_after left (length (record_text n r))) rs
+unfolding left_fits left_after
+left_cons n None r rs = refl
+left_cons n (Some left) r rs = go (ltb left (length (record_text n r))) refl
+  where
+    go : (v : Bool) → ltb left (length (record_text n r)) ≡ v
+        → rest_fits n left (r ∷ rs) ≡ left_fits (n + 1) (cond v None (Some (left - length (record_text n r)))) rs
+    go true q = rest_short n left r rs (ltb-true left (length (record_text n r)) q)
+    go false q = rest_on n left r rs (ltb-false left (length (record_text n r)) q)
+
+module _ (p n : ℕ) (left : Option ℕ) (r : Charted) (rs : List Charted) where
+  measured_wrong : right_after p r ≡ false → measured_from p n left (r ∷ rs) ≡ RECORD
   unfolding measured_from
   measured_wrong e = rw (right_cons p r rs, e)
 
-  measured_on : right_after p r ≡ true
-      → measured_from p n left over (r ∷ rs) ≡ measured_from r.kind (n + 1) (spare_after left over (length (record_text n r))).left (spare_after left over (length (record_text n r))).over rs
-  unfolding measured_from spare_after
-  measured_on e = rw (right_cons p r rs, e) (go over (ltb left (length (record_text n r))) refl)
-    where
-      go : (o v : Bool) → ltb left (length (record_text n r)) ≡ v
-          → cond (right_from r.kind rs) (cond o ROOM (cond (rest_fits n left (r ∷ rs)) 0 ROOM)) RECORD
-          ≡ cond (right_from r.kind rs)
-          (cond (cond o (spare 0 true) (cond v (spare 0 true) (spare (left - length (record_text n r)) false))).over ROOM
-          (cond (rest_fits (n + 1) (cond o (spare 0 true) (cond v (spare 0 true) (spare (left - length (record_text n r)) false))).left rs) 0 ROOM)) RECORD
-      go true v q = refl
-      go false true q = rw (rest_short n left r rs (ltb-true left (length (record_text n r)) q))
-      go false false q = rw (rest_on n left r rs (ltb-false left (length (record_text n r)) q))
+  measured_on : right_after p r ≡ true → measured_from p n left (r ∷ rs) ≡ measured_from r.kind (n + 1) (left_after left (length (record_text n r))) rs
+  unfolding measured_from
+  measured_on e = rw (right_cons p r rs, e, left_cons n left r rs)
 
 note_same : (at end : ℕ) (ns : List ℕ) (s : Text) → at < length s → well_formed (charted_at s at) ≡ true → end ≡ given_end s at → note_if at end ns ≡ note_of at (charted_at s at) ns
 note_same at end ns s h w e = ap (λ (x : ℕ). note_if at x ns) e ∙ note_given s at ns h w
 
 -- what is still to be measured and noted, from the record at a position on
 module _ (s : Text) (room : ℕ) (ns₀ : List ℕ) where
-  pub record Measuring (ns : List ℕ) (left : ℕ) (over : Bool) (at n p : ℕ) : Type 0 where
+  pub record Measuring (ns : List ℕ) (left : Option ℕ) (at n p : ℕ) : Type 0 where
     pub within : at ≤ length s
     pub few : n ≤ at + 1
     pub size : length ns ≡ length ns₀
-    pub answer : measured s room ≡ measured_from p n left over (charted_in (drop at s))
+    pub answer : measured s room ≡ measured_from p n left (charted_in (drop at s))
     pub noted : notes_of s ns₀ ≡ notes_from at p (charted_in (drop at s)) ns
 
-  pub measuring_start : Measuring ns₀ room false 0 1 IH
-  unfolding measured notes_of measured_from is_chart fits_in right_from rest_fits rest_length
+  pub measuring_start : Measuring ns₀ (Some room) 0 1 IH
+  unfolding measured notes_of measured_from left_fits is_chart fits_in right_from rest_fits rest_length
   measuring_start =
       record {
         within = omega arith;
@@ -113,7 +110,7 @@ module _ (s : Text) (room : ℕ) (ns₀ : List ℕ) where
         noted = refl;
       }
 
-  module _ (ns : List ℕ) (left : ℕ) (over : Bool) (at n p : ℕ) (inv : Measuring ns left over at n p) where
+  module _ (ns : List ℕ) (left : Option ℕ) (at n p : ℕ) (inv : Measuring ns left at n p) where
     pub measuring_size : length ns ≡ length ns₀
     measuring_size = inv.size
 
@@ -125,8 +122,8 @@ module _ (s : Text) (room : ℕ) (ns₀ : List ℕ) where
 
     -- behind the last record
     module _ (h : length s ≤ at) where
-      pub measuring_answer : (f : Bool) (r : ℕ) → f ≡ follows p IF → r ≡ answer_of f n left over → r ≡ measured s room
-      measuring_answer f r ef e = e ∙ rw ef (sym (inv.answer ∙ ap (measured_from p n left over) (charted_end s at h) ∙ answer_end p n left over))
+      pub measuring_answer : (f : Bool) (r : ℕ) → f ≡ follows p IF → r ≡ answer_of f n left → r ≡ measured s room
+      measuring_answer f r ef e = e ∙ rw ef (sym (inv.answer ∙ ap (measured_from p n left) (charted_end s at h) ∙ answer_end p n left))
 
       pub measuring_notes : ns ≡ notes_of s ns₀
       measuring_notes = sym (inv.noted ∙ ap (λ (rs : List Charted). notes_from at p rs ns) (charted_end s at h) ∙ notes_none at p ns)
@@ -140,10 +137,10 @@ module _ (s : Text) (room : ℕ) (ns₀ : List ℕ) where
           go true e = clash (omega (arith, e, z, given_from s at h))
           go false e = refl
 
-      pub wrong_answer : (r : ℕ) → end ≡ 0 → r ≡ answer_of false n left over → r ≡ measured s room
+      pub wrong_answer : (r : ℕ) → end ≡ 0 → r ≡ answer_of false n left → r ≡ measured s room
       wrong_answer r z e =
-          e ∙ answer_wrong n left over
-          ∙ sym (inv.answer ∙ ap (measured_from p n left over) (charted_on s at h) ∙ measured_wrong p n left over (charted_at s at) (charted_in (drop (record_end s at) s)) (is_wrong z))
+          e ∙ answer_wrong n left
+          ∙ sym (inv.answer ∙ ap (measured_from p n left) (charted_on s at h) ∙ measured_wrong p n left (charted_at s at) (charted_in (drop (record_end s at) s)) (is_wrong z))
 
       pub wrong_notes : end ≡ 0 → ns ≡ notes_of s ns₀
       wrong_notes z =
@@ -168,8 +165,8 @@ module _ (s : Text) (room : ℕ) (ns₀ : List ℕ) where
         pub right_behind : at < end
         right_behind = omega (arith, is_right_lem.1, given_from s at h)
 
-        pub measuring_on : (new : List ℕ) (sp : Spare) (k e : ℕ) → new ≡ note_if at end ns → sp ≡ spare_after left over (length (record_text n (charted_at s at)))
-            → k ≡ record_kind (get_or s at 0) → e ≡ record_end s at → Measuring new sp.left sp.over e (n + 1) k
+        pub measuring_on : (new : List ℕ) (sp : Option ℕ) (k e : ℕ) → new ≡ note_if at end ns → sp ≡ left_after left (length (record_text n (charted_at s at)))
+            → k ≡ record_kind (get_or s at 0) → e ≡ record_end s at → Measuring new sp e (n + 1) k
         measuring_on new sp k e en es ek el =
             let qn : new ≡ note_of at (charted_at s at) ns = en ∙ note_same at end ns s h right_form right_given in
             let qe : e ≡ at + 1 + body_width (record_kind (get_or s at 0)) = el ∙ end_whole s at h right_form in
@@ -178,8 +175,8 @@ module _ (s : Text) (room : ℕ) (ns₀ : List ℕ) where
               few = omega (arith, inv.few, end_behind s at e el h);
               size = ap length qn ∙ note_long at (charted_at s at) ns ∙ inv.size;
               answer =
-                  inv.answer ∙ ap (measured_from p n left over) (charted_on s at h)
-                  ∙ measured_on p n left over (charted_at s at) (charted_in (drop (record_end s at) s)) is_right_lem.0
+                  inv.answer ∙ ap (measured_from p n left) (charted_on s at h)
+                  ∙ measured_on p n left (charted_at s at) (charted_in (drop (record_end s at) s)) is_right_lem.0
                   ∙ rw (← es, ← el, at_kind, ← ek);
               noted =
                   inv.noted ∙ ap (λ (rs : List Charted). notes_from at p rs ns) (charted_on s at h)

@@ -4,7 +4,7 @@ use mathlib.Core.Path.{◌≡◌, sym, ◌∙◌}
 use mathlib.Core.Bool.{Bool}
 use mathlib.Core.List.{List}
 use Prim.Native.Nat.{ℕ}
-use lib.ListN.{length, get_or}
+use lib.ListN.{get_or}
 use Rattle.house.specs.Text.{Text}
 use Rattle.chart_definitions.specs.Charts.{record_kind, widths_of, body_width, is_chart}
 use Rattle.chart_records.specs.Reading.{record_end, fits_in, measured, notes_of, noted_end}
@@ -21,11 +21,8 @@ body_width_lem k r q = one
 record_end_lem : (s : Text) (at r q : ℕ) → r ≡ record_end s at → q ≡ record_end s at → r ≡ q
 record_end_lem s at r q = one
 
-width_count : (k r q : ℕ) → r ≡ length (widths_of k) → q ≡ length (widths_of k) → r ≡ q
-width_count k r q = one
-
-width_at : (k i r q : ℕ) → r ≡ get_or (widths_of k) i 0 → q ≡ get_or (widths_of k) i 0 → r ≡ q
-width_at k i r q = one
+widths_of_lem : (k : ℕ) (r q : List ℕ) → r ≡ widths_of k → q ≡ widths_of k → r ≡ q
+widths_of_lem k r q = one
 
 is_chart_lem : (s : Text) (r q : Bool) → r ≡ is_chart s → q ≡ is_chart s → r ≡ q
 is_chart_lem s r q = one

@@ -1,23 +1,17 @@
 -- What the crate's own functions answer: cited by private contracts and by laws alone. No public contract rests on this page.
 -- Assumes nothing.
-use Rattle.std.specs.Prelude.{ℕ, ◌+◌, ◌-◌, ◌/◌, Bool, true, false, cond, ◌&&◌, List, [], ◌++◌, length, get_or, set, eqb, ltb, leb}
+use Rattle.std.specs.Prelude.{ℕ, ◌+◌, ◌-◌, ◌/◌, Bool, false, cond, ◌&&◌, List, [], ◌++◌, Option, Some, None, length, set, eqb, ltb, leb}
 use Rattle.house.specs.Text.{Text, all, is_blank, joined}
-use Rattle.house.specs.Numbers.{lesser_of}
 use Rattle.lines.specs.Lines.{pipe}
 use Rattle.chart_definitions.specs.Charts.{Charted, widths_of, cut, is_field_byte, well_formed, ordered}
 use Rattle.chart_definitions.specs.Submissions.{piped, line_text, records_text, footer_fields, RECORD, ROOM}
 use Rattle.chart_records.specs.Reading.{record_end, comment_start, has_no_comment, note_width, note_bound}
-use Rattle.chart_records.specs.declared.Spare.{Spare}
 -- the crates above name them from here too
 unfoldable pub use Rattle.chart_records.specs.Reading.{charted_at, right_after}
 
 -- a byte where the greatest is looked for: a pipe counts as the greatest of all
 unfoldable pub lifted_of : ℕ → ℕ
 lifted_of b = cond (eqb b pipe) 255 b
-
--- each byte may stand in a field, where the bytes before these are no less than l and no greater than h
-unfoldable pub fields_in : ℕ → ℕ → Text → Bool
-fields_in l h t = cond (ltb l 32) false (cond (ltb 126 h) false (all is_field_byte t))
 
 -- the form of bytes: 0 where not each may stand in a field, 1 where all are blanks, else 2
 unfoldable pub form_of : Text → ℕ
@@ -39,10 +33,6 @@ note_if at end notes = cond (eqb end (at + 1 + comment_start) && ltb at note_bou
 unfoldable pub right_from : ℕ → List Charted → Bool
 right_from p rs = all well_formed rs && ordered p rs
 
--- where the field of number i ends that starts at a position: it is as wide as it says, or goes to the end
-unfoldable pub field_end : List ℕ → ℕ → Text → ℕ → ℕ
-field_end ws i t at = lesser_of (at + get_or ws i 0) (length t)
-
 -- how many bytes are written of fields of these widths
 unfoldable pub cut_length : List ℕ → Text → ℕ
 cut_length ws t = length (joined piped (cut ws t))
@@ -59,18 +49,20 @@ rest_length n rs = length (records_text n rs ++ line_text (footer_fields (length
 unfoldable pub rest_fits : ℕ → ℕ → List Charted → Bool
 rest_fits n left rs = leb (rest_length n rs) left
 
--- what is left of room, and whether it has run out
-abbrev pub spare : ℕ → Bool → Spare
-spare left over = record { left = left; over = over }
+-- what is left of the room behind a line of so many bytes: nothing where it has run out
+unfoldable pub left_after : Option ℕ → ℕ → Option ℕ
+left_after None long = None
+left_after (Some left) long = cond (ltb left long) None (Some (left - long))
 
--- behind a line of so many bytes
-unfoldable pub spare_after : ℕ → Bool → ℕ → Spare
-spare_after left over long = cond over (spare 0 true) (cond (ltb left long) (spare 0 true) (spare (left - long) false))
+-- so much is left for these records, the first being number n, and the footer
+unfoldable pub left_fits : ℕ → Option ℕ → List Charted → Bool
+left_fits n None rs = false
+left_fits n (Some left) rs = rest_fits n left rs
 
 -- what measuring answers where it ends, by whether the chart is right; n would be the number of the next record
-unfoldable pub answer_of : Bool → ℕ → ℕ → Bool → ℕ
-answer_of right n left over = cond right (cond over ROOM (cond (rest_fits n left []) 0 ROOM)) RECORD
+unfoldable pub answer_of : Bool → ℕ → Option ℕ → ℕ
+answer_of right n left = cond right (cond (left_fits n left []) 0 ROOM) RECORD
 
 -- what it answers, where these records are left, the first being number n and the one before it of kind p
-unfoldable pub measured_from : ℕ → ℕ → ℕ → Bool → List Charted → ℕ
-measured_from p n left over rs = cond (right_from p rs) (cond over ROOM (cond (rest_fits n left rs) 0 ROOM)) RECORD
+unfoldable pub measured_from : ℕ → ℕ → Option ℕ → List Charted → ℕ
+measured_from p n left rs = cond (right_from p rs) (cond (left_fits n left rs) 0 ROOM) RECORD

@@ -3,42 +3,57 @@ ghost use Rattle.std.specs.Prelude.{◌≡◌, ◌<◌, length};
 ghost use Rattle.house.specs.Text.{all};
 ghost use Rattle.chart_definitions.specs.Charts.{is_field_byte, is_chart};
 ghost use Rattle.chart_records.specs.Reading.{charted_at, right_after};
-ghost use Rattle.chart_records.specs.Inside.{lifted_of};
+ghost use Rattle.chart_records.specs.Inside.{lifted_of, form_of};
 
 use crate::kinds::{body_width, kind_at, record_end};
 use house::{greater_byte, lesser_byte};
 use lines::{IF, IH, may_follow};
 
-// The greatest byte.
-const GREATEST: u8 = 255;
+// Bytes may not all stand in a field; or are all blanks; or are others.
+pub(crate) const WRONG: u8 = 0;
+
+pub(crate) const BLANK: u8 = 1;
+
+const TEXT: u8 = 2;
 
 // A byte where the greatest is looked for: a pipe counts as the greatest of all.
-pub(crate) fn lifted(b: u8) -> u8
+fn lifted(b: u8) -> u8
     ensures { result ≡ lifted_of b }
 {
     if b == b'|' {
-        return GREATEST;
+        return u8::MAX;
     }
     b
 }
 
-// Whether each byte lies in 32..126 and none is a pipe: by the least and the greatest, which are found many bytes at a time.
-fn is_field_bytes(body: &[u8]) -> bool
-    ensures { result ≡ all is_field_byte body.now }
+// Whether each byte lies in 32..126 and none is a pipe, and whether all are blanks: by the least and the greatest, which are found many bytes
+// at a time.
+pub(crate) fn form_of(bytes: &[u8]) -> u8
+    ensures { result ≡ form_of bytes.now }
 {
-    let mut least: u8 = 32;
-    let mut most: u8 = 126;
-    let mut i = 0;
-    while i < body.len() {
-        let b = body[i];
-        least = lesser_byte(least, b);
-        most = greater_byte(most, lifted(b));
-        i += 1;
+    let mut least = b' ';
+    let mut most = b' ';
+    for b in bytes {
+        least = lesser_byte(least, *b);
+        most = greater_byte(most, lifted(*b));
     }
-    if least < 32 {
-        return false;
+    if least < b' ' {
+        return WRONG;
     }
-    most <= 126
+    if b'~' < most {
+        return WRONG;
+    }
+    if b' ' < most {
+        return TEXT;
+    }
+    BLANK
+}
+
+// Whether each byte may stand in a field.
+pub(crate) fn is_field_bytes(bytes: &[u8]) -> bool
+    ensures { result ≡ all is_field_byte bytes.now }
+{
+    form_of(bytes) != WRONG
 }
 
 // Whether the record at a position is of right form, and may follow one of kind p.
@@ -64,6 +79,7 @@ pub fn is_chart(chart: &[u8]) -> bool
 {
     let mut at = 0;
     let mut p: u8 = IH;
+    // Not a `for`: the position jumps from record to record.
     while at < chart.len() {
         if is_right_at(chart, at, p) {
             p = kind_at(chart, at);

@@ -7,6 +7,7 @@ ghost use Rattle.chart_records.specs.Reading.{record_end};
 use lines::{IA, IE, II, IN, IP};
 
 // The kind that a byte of kind names, 0 for none.
+#[tactic(auto, unfolding(chart_definitions::specs::Charts::record_kind))]
 fn kind_of(b: u8) -> u8
     ensures { result ≡ record_kind b }
 {
@@ -31,6 +32,7 @@ pub fn kind_at(chart: &[u8], at: usize) -> u8
 }
 
 // How many bytes the fields of a record of a kind have.
+#[tactic(auto, unfolding(chart_definitions::specs::Charts::body_width, chart_definitions::specs::Charts::widths_of))]
 pub fn body_width(kind: u8) -> usize
     ensures { result ≡ body_width kind }
 {
@@ -51,10 +53,7 @@ pub(crate) fn ahead(at: usize, n: usize, end: usize) -> usize
     ensures lower_bound { at ≤ result }
     ensures upper_bound { result ≤ end }
 {
-    if end - at < n {
-        return end;
-    }
-    at + n
+    at + n.min(end - at)
 }
 
 // Where the record at a position ends.

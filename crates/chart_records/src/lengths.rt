@@ -5,10 +5,10 @@ ghost use Rattle.writing.specs.Writing.{decimal};
 ghost use Rattle.chart_definitions.specs.Charts.{widths_of};
 ghost use Rattle.chart_definitions.specs.Submissions.{type_text, record_text};
 ghost use Rattle.chart_records.specs.Reading.{charted_at, fits_in};
-ghost use Rattle.chart_records.specs.Inside.{field_end, cut_length, given_length};
+ghost use Rattle.chart_records.specs.Inside.{cut_length, given_length};
 
 use crate::kinds::{ahead, kind_at, record_end};
-use crate::widths::{width_at, width_count};
+use crate::widths::widths_of;
 use lines::{IA, IE, II, IN, IP};
 use writing::number_length;
 
@@ -19,28 +19,15 @@ pub(crate) const MARKS: usize = 3;
 pub(crate) const FOOTER: usize = 7;
 
 // How long the record type of a kind is.
+#[tactic(auto, unfolding(chart_definitions::specs::Submissions::type_text))]
 pub(crate) fn type_length(kind: u8) -> usize
     ensures value { result ≡ length (type_text kind) }
     ensures upper_bound { result ≤ 2 }
 {
     match kind {
-        IP => 2,
-        II => 2,
-        IE => 2,
-        IN => 2,
-        IA => 2,
+        IP | II | IE | IN | IA => 2,
         _ => 0,
     }
-}
-
-// Where the field of number i ends that starts at a position.
-fn field_end(body: &[u8], at: usize, kind: u8, i: usize) -> usize
-    requires { at ≤ length body.now }
-    ensures value { result ≡ field_end (widths_of kind) i body.now at }
-    ensures lower_bound { at ≤ result }
-    ensures upper_bound { result ≤ length body.now }
-{
-    ahead(at, width_at(kind, i), body.len())
 }
 
 // How long a field is without the blanks at its ends.
@@ -60,19 +47,17 @@ pub(crate) fn fields_length(body: &[u8], kind: u8) -> usize
     ensures value { result ≡ cut_length (widths_of kind) body.now }
     ensures upper_bound { result ≤ length body.now + 25 }
 {
-    let count = width_count(kind);
+    let widths = widths_of(kind);
     let body = blanks::trim_end(body);
-    let mut long = 0;
+    let mut long = widths.len();
     let mut at = 0;
-    let mut i = 0;
-    while i < count {
+    for width in widths {
         if body.len() <= at {
-            return long + (count - i);
+            return long;
         }
-        let end = field_end(body, at, kind, i);
-        long += field_length(body, at, end) + 1;
+        let end = ahead(at, *width, body.len());
+        long += field_length(body, at, end);
         at = end;
-        i += 1;
     }
     long
 }
@@ -112,6 +97,7 @@ pub fn fits(chart: &[u8], room: usize) -> bool
     let mut left = room;
     let mut at = 0;
     let mut n = 1;
+    // Not a `for`: the position jumps from record to record.
     while at < chart.len() {
         let long = record_length(chart, at, n);
         if left < long {

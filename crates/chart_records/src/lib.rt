@@ -12,13 +12,6 @@ mod widths;
 pub use form::is_chart;
 pub use kinds::{body_width, kind_at, record_end};
 pub use lengths::fits;
-pub use measures::measure;
-pub use notes::noted_end;
-pub use widths::{width_at, width_count};
-
-// How much is left of the room, and whether it has run out.
-#[derive(Clone, Copy)]
-struct Spare {
-    left: usize,
-    over: bool,
-}
+pub use measures::{RECORD, ROOM, measure};
+pub use notes::{NOTE_WIDTH, noted_end};
+pub use widths::widths_of;

@@ -9,7 +9,7 @@ use crate::kinds::record_end;
 pub(crate) const COMMENT_START: usize = 99;
 
 // Two II records stand so far apart at least: an II, and its IE.
-const NOTE_WIDTH: usize = 1727;
+pub const NOTE_WIDTH: usize = 1727;
 
 // A note has room for positions below this one.
 const NOTE_BOUND: usize = 4294967295;
@@ -37,14 +37,6 @@ pub(crate) fn note(notes: &mut [u32], at: usize, end: usize)
     }
 }
 
-// A note as a number.
-fn number_of(note: u32) -> usize
-    ensures value { result ≡ note }
-    ensures upper_bound { result ≤ note_bound }
-{
-    note as usize
-}
-
 // What stands where the note of a position belongs, 0 for nothing.
 fn note_at(notes: &[u32], at: usize) -> usize
     ensures value { result ≡ get_or notes.now (at / note_width) 0 }
@@ -52,7 +44,7 @@ fn note_at(notes: &[u32], at: usize) -> usize
 {
     let slot = at / NOTE_WIDTH;
     if slot < notes.len() {
-        return number_of(notes[slot]);
+        return house::wide(notes[slot]);
     }
     0
 }

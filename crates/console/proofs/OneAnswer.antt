@@ -2,8 +2,7 @@
 -- Assumes nothing.
 use mathlib.Core.Path.{◌≡◌, sym, ◌∙◌}
 use Rattle.house.specs.Text.{Text}
-use Rattle.answers.specs.declared.Answer.{Answer}
-use Rattle.answers.specs.Answers.{left}
+use Rattle.answers.specs.Answers.{Answer, left}
 use Rattle.console.specs.Program.{answer_of}
 
 pub one_answer : (input book ledger area : Text) (a b : Answer) (l m s t : Text) → left a l s ≡ answer_of input book ledger area → left b m t ≡ answer_of input book ledger area

@@ -6,8 +6,8 @@ use Rattle.std.specs.Prelude.{ℕ, Bool, not, cond, ◌&&◌, length, get_or, ta
 use Rattle.house.specs.Text.{Text, number}
 use Rattle.dates.specs.Dates.{is_date, is_day}
 use Rattle.book.specs.Book.{book_ok}
-use Rattle.answers.specs.declared.Answer.{Answer}
-use Rattle.answers.specs.declared.Answer.TheVariants.{Date, Long, Book, Ledger}
+use Rattle.answers.specs.declared.Refusal.{Refusal}
+use Rattle.answers.specs.declared.Refusal.TheVariants.{Date, Long, Book, Ledger}
 use Rattle.answers.specs.Answers.{Lent, Outcome, lent, refused, check}
 
 abbrev pub submission_most : ℕ
@@ -32,7 +32,7 @@ abbrev pub lent_by : Text → Text → Text → Text → Lent
 lent_by input book ledger area = lent (today_in input) (drop 9 input) book ledger area
 
 -- a ledger that is too long is LEDGER, unless the book is malformed
-unfoldable pub over_long : Text → Answer
+unfoldable pub over_long : Text → Refusal
 over_long book = cond (book_ok book) Ledger Book
 
 -- "The lowest number that applies is given."

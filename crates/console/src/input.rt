@@ -3,9 +3,8 @@ ghost use Rattle.std.specs.Prelude.{◌≡◌};
 ghost use Rattle.answers.specs.Answers.{left};
 ghost use Rattle.console.specs.Program.{today_in, over_long, answer_of};
 
-use answers::Answer;
-use book::Validity;
-use dates::{Date, Dated};
+use answers::{Accepted, Refusal};
+use dates::Date;
 
 // Eight digits of today and LF.
 const TODAY_LINE: usize = 9;
@@ -24,51 +23,51 @@ const MOST_LEDGER: usize = 7600;
 fn today_in(input: &[u8]) -> u32
     ensures { result ≡ today_in input.now }
 {
-    if input.len() < 9 {
+    if input.len() < TODAY_LINE {
         return 0;
     }
-    if input[8] != 10 {
+    if input[8] != b'\n' {
         return 0;
     }
-    let from = 0;
-    let to = 8;
-    let d = Date::of(&input[from..to]);
+    let d = Date::of(&input[..8]);
     match d {
-        Dated::Day(date) => date.number,
-        Dated::NoDate => 0,
+        Some(date) => date.number,
+        None => 0,
     }
 }
 
 // A ledger that is too long is LEDGER, unless the book is malformed.
-fn over_long(book: &[u8]) -> Answer
+fn over_long(book: &[u8]) -> Refusal
     ensures { result ≡ over_long book.now }
 {
-    let v = book::valid(book);
-    match v {
-        Validity::Valid(_) => Answer::Ledger,
-        Validity::Malformed => Answer::Book,
+    match book::valid(book) {
+        Some(_) => Refusal::Ledger,
+        None => Refusal::Book,
     }
 }
 
 // The answer to what was read.
-pub fn answer(input: &[u8], book: &[u8], ledger: &mut [u8], area: &mut [u8]) -> Answer
+pub fn answer(
+    input: &[u8],
+    book: &[u8],
+    ledger: &mut [u8],
+    area: &mut [u8],
+) -> Result<Accepted, Refusal>
     ensures { left result ledger.new area.new
         ≡ answer_of input.now book.now ledger.old area.old }
 {
     let today = today_in(input);
     if today == 0 {
-        return Answer::Date;
+        return Err(Refusal::Date);
     }
     if MOST_INPUT < input.len() {
-        return Answer::Long;
+        return Err(Refusal::Long);
     }
     if MOST_CODES < book.len() {
-        return Answer::Book;
+        return Err(Refusal::Book);
     }
     if MOST_LEDGER < ledger.len() {
-        return over_long(book);
+        return Err(over_long(book));
     }
-    let from = TODAY_LINE;
-    let to = input.len();
-    answers::check(today, &input[from..to], book, ledger, area)
+    answers::check(today, &input[TODAY_LINE..], book, ledger, area)
 }

@@ -17,10 +17,12 @@ use std::rt::Files;
 const MOST_READ: usize = 65536;
 
 // "room for 1,000 findings"
-pub(crate) const MOST_FINDINGS: usize = 1000;
+const MOST_FINDINGS: usize = 1000;
 
 // A finding has six bytes.
-const AREA: usize = 6 * MOST_FINDINGS;
+pub(crate) const FINDING: usize = 6;
+
+const AREA: usize = FINDING * MOST_FINDINGS;
 
 // An area of zeros for the findings. The `ensures` gives only the length, which lending the array as a slice needs.
 fn findings_area() -> [u8; AREA]
@@ -34,6 +36,7 @@ fn read_full(reader: &mut impl Read, space: &mut [u8]) -> io::Result<usize>
     ensures { ReadsAtMost result space.new }
 {
     let mut done = 0;
+    // Not a `for`: the position jumps by what was read.
     while done < space.len() {
         let n = reader.read(&mut space[done..])?;
         if n == 0 {

@@ -2,90 +2,71 @@
 ghost use Rattle.std.specs.Prelude.{◌≡◌};
 ghost use Rattle.answers.specs.Answers.{numbers_of};
 
-use crate::MOST_FINDINGS;
-use answers::Answer;
+use crate::FINDING;
+use answers::{Accepted, Refusal};
 use std::io;
 
-// A count, as a number to print.
-fn long(n: usize) -> u64
-    ensures { result ≡ n }
-{
-    n as u64
-}
-
-// A byte, as a number to print.
-fn wide(b: u8) -> u64
-    ensures { result ≡ b }
-{
-    b as u64
-}
-
 // The numbers of an answer.
-fn numbers_of(a: Answer) -> [u64; 8]
+#[tactic(auto, unfolding(answers::specs::Answers::numbers_of))]
+fn numbers_of(a: Result<Accepted, Refusal>) -> [u64; 8]
     ensures { result ≡ numbers_of a }
 {
     match a {
-        Answer::Accepted {
-            added,
-            changed,
-            deleted,
-            not_immunized,
-        } => [
+        Ok(accepted) => [
             0,
             0,
             0,
             0,
-            long(added),
-            long(changed),
-            long(deleted),
-            long(not_immunized),
+            accepted.added as u64,
+            accepted.changed as u64,
+            accepted.deleted as u64,
+            accepted.not_immunized as u64,
         ],
-        Answer::Date => [1, 0, 0, 0, 0, 0, 0, 0],
-        Answer::Long => [2, 0, 0, 0, 0, 0, 0, 0],
-        Answer::Book => [3, 0, 0, 0, 0, 0, 0, 0],
-        Answer::Ledger => [4, 0, 0, 0, 0, 0, 0, 0],
-        Answer::Shape { line, cause } => [5, long(line), cause as u64, 0, 0, 0, 0, 0],
-        Answer::Findings(n) => [6, 0, 0, long(n), 0, 0, 0, 0],
-        Answer::Full => [7, 0, 0, 0, 0, 0, 0, 0],
+        Err(Refusal::Date) => [1, 0, 0, 0, 0, 0, 0, 0],
+        Err(Refusal::Long) => [2, 0, 0, 0, 0, 0, 0, 0],
+        Err(Refusal::Book) => [3, 0, 0, 0, 0, 0, 0, 0],
+        Err(Refusal::Ledger) => [4, 0, 0, 0, 0, 0, 0, 0],
+        Err(Refusal::Shape(fault)) => {
+            [
+                5,
+                fault.line as u64,
+                fault.cause.number() as u64,
+                0,
+                0,
+                0,
+                0,
+                0,
+            ]
+        }
+        Err(Refusal::Findings(n)) => [6, 0, 0, n as u64, 0, 0, 0, 0],
+        Err(Refusal::Full) => [7, 0, 0, 0, 0, 0, 0, 0],
     }
 }
 
-// Prints numbers on a line.
-fn on_a_line(rt: &impl Print, numbers: &[u64]) -> io::Result<()> {
-    let mut i = 0;
-    while i < numbers.len() {
-        if 0 < i {
-            rt.write_all(b" ")?;
-        }
-        rt.print(numbers[i])?;
-        i += 1;
-    }
-    rt.write_all(b"\n")
-}
-
-// Prints the finding that starts at a position of the area, where a whole one does.
-fn finding(rt: &impl Print, area: &[u8], at: usize) -> io::Result<()> {
-    if at < area.len() {
-        if 6 <= area.len() - at {
-            let line = house::number_at(area, at + 1);
-            let field = wide(area[at + 5]);
-            let rule = wide(area[at]);
-            on_a_line(rt, &[line as u64, field, rule])?;
-        }
-    }
-    Ok(())
+// Prints a finding.
+fn finding(rt: &impl Print, bytes: &[u8; FINDING]) -> io::Result<()> {
+    let line = house::number_at(bytes, 1);
+    let field = bytes[5];
+    let rule = bytes[0];
+    println!(rt; "{line} {field} {rule}")
 }
 
 // Prints an answer, and the findings kept in their area.
-pub(crate) fn print(rt: &impl Print, a: Answer, area: &[u8]) -> io::Result<()> {
-    let numbers = numbers_of(a);
-    on_a_line(rt, &numbers)?;
-    let mut i = 0;
-    while i < MOST_FINDINGS {
-        if (i as u64) < numbers[3] {
-            finding(rt, area, 6 * i)?;
-        }
-        i += 1;
+pub(crate) fn print(rt: &impl Print, a: Result<Accepted, Refusal>, area: &[u8]) -> io::Result<()> {
+    let [
+        answer,
+        line,
+        cause,
+        findings,
+        added,
+        changed,
+        deleted,
+        not_immunized,
+    ] = numbers_of(a);
+    println!(rt; "{answer} {line} {cause} {findings} {added} {changed} {deleted} {not_immunized}")?;
+    let (kept, _) = area.as_chunks::<FINDING>();
+    for bytes in kept.iter().take(findings as usize) {
+        finding(rt, bytes)?;
     }
     Ok(())
 }

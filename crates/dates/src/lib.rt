@@ -13,24 +13,11 @@ pub struct Date {
     pub number: u32,
 }
 
-// What a text or a number reads as.
-#[derive(Clone, Copy)]
-pub enum Dated {
-    Day(Date),
-    NoDate,
-}
-
 // Whether a year of the Gregorian calendar has a 29th of February.
 fn is_leap(y: u32) -> bool
     ensures { result ≡ is_leap y }
 {
-    if y % 4 != 0 {
-        return false;
-    }
-    if y % 100 != 0 {
-        return true;
-    }
-    y % 400 == 0
+    y % 4 == 0 && (y % 100 != 0 || y % 400 == 0)
 }
 
 // How many days a month of a year has.
@@ -51,26 +38,10 @@ const SHORTEST: u32 = 28;
 fn is_real(y: u32, m: u32, d: u32) -> bool
     ensures { result ≡ (within first_year last_year y && within 1 12 m && within 1 (days_in y m) d) }
 {
-    if y < Date::FIRST_YEAR {
+    if y < Date::FIRST_YEAR || Date::LAST_YEAR < y || m < 1 || 12 < m || d < 1 {
         return false;
     }
-    if Date::LAST_YEAR < y {
-        return false;
-    }
-    if m < 1 {
-        return false;
-    }
-    if 12 < m {
-        return false;
-    }
-    if d < 1 {
-        return false;
-    }
-    if d <= SHORTEST {
-        return true;
-    }
-    let most = days_in(y, m);
-    if most < d { false } else { true }
+    d <= SHORTEST || d <= days_in(y, m)
 }
 
 // What two bytes 0 come to, read as digits are.
@@ -83,11 +54,11 @@ fn two_digits(text: &[u8], i: usize) -> u32
     ensures value { result ≡ (get_or text.now i 0 - 48) * 10 + (get_or text.now (i + 1) 0 - 48) }
     ensures upper_bound { result ≤ 99 }
 {
-    text[i] as u32 * 10 + text[i + 1] as u32 - ZEROS
+    u32::from(text[i]) * 10 + u32::from(text[i + 1]) - ZEROS
 }
 
 // The date that eight digits write.
-fn eight_digits(text: &[u8]) -> Dated
+fn eight_digits(text: &[u8]) -> Option<Date>
     requires text_len { length text.now ≡ 8 }
     requires text_value { digits text.now ≡ true }
     ensures { result ≡ dated_of text.now }
@@ -96,11 +67,11 @@ fn eight_digits(text: &[u8]) -> Dated
     let m = two_digits(text, 4);
     let d = two_digits(text, 6);
     if is_real(y, m, d) {
-        Dated::Day(Date {
+        Some(Date {
             number: y * 10000 + m * 100 + d,
         })
     } else {
-        Dated::NoDate
+        None
     }
 }
 
@@ -127,36 +98,36 @@ impl Date {
     }
 
     // The date of a number, as today comes.
-    pub fn of_number(n: u32) -> Dated
+    pub fn of_number(n: u32) -> Option<Date>
         ensures { result ≡ day_of n }
     {
         if Self::is_day(n) {
-            Dated::Day(Date { number: n })
+            Some(Date { number: n })
         } else {
-            Dated::NoDate
+            None
         }
     }
 
     // The date that a field's text writes.
-    pub fn of(text: &[u8]) -> Dated
+    pub fn of(text: &[u8]) -> Option<Date>
         ensures { result ≡ dated_of text.now }
     {
         if text.len() != Self::WIDTH {
-            return Dated::NoDate;
+            return None;
         }
         if all_digits(text) {
             eight_digits(text)
         } else {
-            Dated::NoDate
+            None
         }
     }
 
     // The date that an end writes, OPEN for one that is open.
-    pub fn end_of(text: &[u8]) -> Dated
+    pub fn end_of(text: &[u8]) -> Option<Date>
         ensures { result ≡ ended_of text.now }
     {
         if house::same(text, b"99999999") {
-            return Dated::Day(Date { number: Self::OPEN });
+            return Some(Date { number: Self::OPEN });
         }
         Self::of(text)
     }
@@ -165,10 +136,6 @@ impl Date {
     pub fn is_end(text: &[u8]) -> bool
         ensures { result ≡ is_end text.now }
     {
-        let end = Self::end_of(text);
-        match end {
-            Dated::Day(_) => true,
-            Dated::NoDate => false,
-        }
+        matches!(Self::end_of(text), Some(_))
     }
 }

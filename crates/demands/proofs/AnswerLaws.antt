@@ -1,6 +1,6 @@
 -- Which answer is given: each exactly when it is due.
 -- Assumes nothing.
-use Prim.Native.Nat.{◌+◌, ◌≤◌}
+use Prim.Native.Nat.{ℕ, ◌+◌, ◌≤◌}
 use native.Mathlib.Omega.{arith}
 use mathlib.Core.Path.{◌≡◌, refl, ap, ◌∙◌, subst}
 use mathlib.Core.Bool.{Bool, true, false, not, cond}
@@ -13,17 +13,15 @@ use Rattle.house.specs.Text.{is_empty}
 use Rattle.house.specs.Members.{In}
 use Rattle.dates.specs.Dates.{is_day}
 use Rattle.house.proofs.Small.{clash}
-use Rattle.lines.specs.Shape.{shape_of}
-use Rattle.lines.specs.declared.Shape.{Shape}
-use Rattle.lines.specs.declared.Shape.TheVariants.{Right, Fault}
+use Rattle.lines.specs.Shape.{Shape, shape_of}
 use Rattle.book.specs.Book.{book_ok}
 use Rattle.ledger.specs.Ledger.{ledger_ok, slots_in, live_in}
 use Rattle.rules.specs.Findings.{Finding}
 use Rattle.rules.proofs.FindingLaws.{findings_listed, one_list}
-use Rattle.answers.specs.declared.Answer.{Answer}
-use Rattle.answers.specs.declared.Answer.TheVariants.{Accepted, Date, Long, Book, Ledger, Shape as BadShape, Findings, Full}
-use Rattle.answers.specs.Answers.{Lent, Outcome, file_most, setting_of, findings, added, deleted, is_full, refused, accepted, with_findings, roomed, judged, shaped, check}
+use Rattle.answers.specs.declared.Refusal.TheVariants.{Date, Long, Book, Ledger, Shape as BadShape, Findings, Full}
+use Rattle.answers.specs.Answers.{Answer, Lent, Outcome, file_most, setting_of, findings, added, deleted, is_full, refused, accepted, with_findings, roomed, judged, shaped, check}
 use Rattle.demands.specs.Demands.{Unbroken, ListsAll, Room, Lends, Shapely, Due}
+use Rattle.std.proofs.Common.{Ok, Err}
 
 -- Findings and room, as facts
 
@@ -73,8 +71,8 @@ judged_due x s = go (is_empty (findings x)) (is_full x) refl refl
 
 shaped_due : (x : Lent) (s : Shape) → Lends x → shape_of x.file ≡ s → Due x (shaped x s).answer
 unfolding Due
-shaped_due x Right l e = judged_due x (record { lends = l; right = e })
-shaped_due x (Fault n cause) l e = (l, e)
+shaped_due x (Ok u) l e = judged_due x (record { lends = l; right = e })
+shaped_due x (Err fault) l e = (l, e)
 
 pub given_due : (x : Lent) → Due x (check x).answer
 unfolding Due check
@@ -127,16 +125,16 @@ found_check x s (y ∷ ys) p e = shapely_check x s ∙ ap (λ (zs : List Finding
 
 pub due_given : (x : Lent) (a : Answer) → Due x a → (check x).answer ≡ a
 unfolding Due check roomed accepted with_findings
-due_given x (Accepted a c d n) h =
+due_given x (Ok a) h =
     let r : check x ≡ accepted x = unbroken_check x h.0 h.1 ∙ ap (λ (b : Bool). cond b (refused x Full) (accepted x)) (not_full x h.2) in
     ap (λ (o : Outcome). o.answer) r ∙ rw (h.3, h.4, h.5, h.6)
-due_given x Date h = rw h
-due_given x Long h = rw (h.0, lt-ltb file_most (length x.file) h.1)
-due_given x Book h = rw (h.0, le-ltb file_most (length x.file) h.1, h.2)
-due_given x Ledger h = rw (h.0, le-ltb file_most (length x.file) h.1, h.2, h.3)
-due_given x (BadShape n cause) h = ap (λ (o : Outcome). o.answer) (lends_check x h.0 ∙ ap (shaped x) h.1)
-due_given x (Findings n) h =
+due_given x (Err Date) h = rw h
+due_given x (Err Long) h = rw (h.0, lt-ltb file_most (length x.file) h.1)
+due_given x (Err Book) h = rw (h.0, le-ltb file_most (length x.file) h.1, h.2)
+due_given x (Err Ledger) h = rw (h.0, le-ltb file_most (length x.file) h.1, h.2, h.3)
+due_given x (Err (BadShape fault)) h = ap (λ (o : Outcome). o.answer) (lends_check x h.0 ∙ ap (shaped x) h.1)
+due_given x (Err (Findings n)) h =
     let e : findings x ≡ h.2 = only_findings x h.2 h.3 in
-    ap (λ (o : Outcome). o.answer) (found_check x h.0 h.2 (omega (arith, h.4, h.1)) e) ∙ ap (λ (ys : List Finding). Findings (length ys)) e ∙ ap Findings h.4
-due_given x Full h =
+    ap (λ (o : Outcome). o.answer) (found_check x h.0 h.2 (omega (arith, h.4, h.1)) e) ∙ ap (λ (ys : List Finding). Err (Findings (length ys))) e ∙ ap (λ (k : ℕ). Err (Findings k)) h.4
+due_given x (Err Full) h =
     ap (λ (o : Outcome). o.answer) (unbroken_check x h.0 h.1 ∙ ap (λ (b : Bool). cond b (refused x Full) (accepted x)) (full_is x h.2))

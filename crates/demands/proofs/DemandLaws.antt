@@ -18,14 +18,15 @@ use Rattle.ledger.proofs.HeldLaws.{one_ledger}
 use Rattle.rules.specs.Findings.{findings_of}
 use Rattle.rules.specs.FileE.{file_e}
 use Rattle.rules.proofs.AreaLaws.{one_area}
-use Rattle.answers.specs.declared.Answer.{Answer}
-use Rattle.answers.specs.declared.Answer.TheVariants.{Accepted, Shape}
-use Rattle.answers.specs.Answers.{Lent, Outcome, left, setting_of, findings, added, changed, deleted, not_immunized, check, is_accepted, is_findings}
+use Rattle.lines.specs.declared.Cause.TheVariants.{NoEnd}
+use Rattle.answers.specs.declared.Refusal.TheVariants.{Shape}
+use Rattle.answers.specs.Answers.{Answer, accepting, Lent, Outcome, left, setting_of, findings, added, changed, deleted, not_immunized, check, is_accepted, is_findings}
 use Rattle.demands.specs.Runs.{Step, Run, added_by, deleted_by}
 use Rattle.demands.specs.Examples.{file_d, zeros, event_on, lent_e}
 use Rattle.demands.specs.Demands.{Demand1, Demand2, Demand3, LedgerAfter, OneOutcome, Due, Shapely, MeetsDemand3, Check, By, RefusesAll, Constant, NeverTouches, OnlyFirst, UselessShutOut}
 use Rattle.demands.proofs.Cases.{setting_e, computed}
 use Rattle.demands.proofs.AnswerLaws.{given_due, lists_findings, none_unbroken}
+use Rattle.std.proofs.Common.{Err}
 
 -- No second outcome
 
@@ -72,10 +73,10 @@ module _ (c : Check) (d : (x : Lent) → Demand2 x (c x)) where
   c_answer : (x : Lent) (a : Answer) → (check x).answer ≡ a → (c x).answer ≡ a
   c_answer x a e = one_answer x (c x) (d x) ∙ e
 
-  accepts_e : (c (lent_e file_e (zeros 38))).answer ≡ Accepted 1 0 0 0
-  accepts_e = c_answer (lent_e file_e (zeros 38)) (Accepted 1 0 0 0) computed.e_accepted
+  accepts_e : (c (lent_e file_e (zeros 38))).answer ≡ accepting 1 0 0 0
+  accepts_e = c_answer (lent_e file_e (zeros 38)) (accepting 1 0 0 0) computed.e_accepted
 
-  is_accepted_lem : (x : Lent) (a b e n : ℕ) → (c x).answer ≡ Accepted a b e n → is_accepted (c x).answer ≡ true
+  is_accepted_lem : (x : Lent) (a b e n : ℕ) → (c x).answer ≡ accepting a b e n → is_accepted (c x).answer ≡ true
   unfolding is_accepted
   is_accepted_lem x a b e n h = ap is_accepted h
 
@@ -84,7 +85,7 @@ module _ (c : Check) (d : (x : Lent) → Demand2 x (c x)) where
 
   not_constant : Constant c → ⊥
   not_constant r =
-      clash (let h = accepts_e in let k = c_answer (lent_e [] (zeros 38)) (Shape 1 7) computed.empty_refused in let m = r (lent_e file_e (zeros 38)) (lent_e [] (zeros 38)) in cc)
+      clash (let h = accepts_e in let k = c_answer (lent_e [] (zeros 38)) (Err (Shape (record { line = 1; cause = NoEnd }))) computed.empty_refused in let m = r (lent_e file_e (zeros 38)) (lent_e [] (zeros 38)) in cc)
 
   step : Lent → Step
   step x = record { lent = x; left = c x }
@@ -170,7 +171,7 @@ module _ (c : Check) (d : (x : Lent) → Demand2 x (c x)) where
     second_clean =
         ap (λ (es : List Event). findings_of (setting_e es) file_d) live_e ∙ computed.d_findings
 
-    second_due : Due second (Accepted 0 0 1 0)
+    second_due : Due second (accepting 0 0 1 0)
     unfolding Due second added changed deleted not_immunized
     second_due =
         let a : length (added second) ≡ 0 = ap length computed.d_adds in
@@ -183,7 +184,7 @@ module _ (c : Check) (d : (x : Lent) → Demand2 x (c x)) where
         (s, none_unbroken second second_clean, omega (arith, one_live, a, k), a, ap length computed.d_changes, k, computed.d_not_immunized)
 
     second_accepted : is_accepted (c second).answer ≡ true
-    second_accepted = is_accepted_lem second 0 0 1 0 (((d second).exactly (Accepted 0 0 1 0)).1 second_due)
+    second_accepted = is_accepted_lem second 0 0 1 0 (((d second).exactly (accepting 0 0 1 0)).1 second_due)
 
     d_added : added_by (step second) ≡ []
     unfolding added second

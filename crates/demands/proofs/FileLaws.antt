@@ -13,9 +13,7 @@ use Rattle.house.specs.Members.{In, Distinct}
 use Rattle.house.proofs.Facts.{of_true, is_true}
 use Rattle.house.proofs.Small.{clash}
 use Rattle.dates.specs.Dates.{is_day}
-use Rattle.lines.specs.Shape.{shape_of}
-use Rattle.lines.specs.declared.Shape.{Shape}
-use Rattle.lines.specs.declared.Shape.TheVariants.{Right, Fault}
+use Rattle.lines.specs.Shape.{Shape, shape_of}
 use Rattle.book.specs.Book.{book_ok}
 use Rattle.ledger.specs.Ledger.{Event, slots_in, event_form, ledger_ok, live_in, events_after}
 use Rattle.ledger.proofs.EventLaws.{among_in, in_among, in_after, after_in, count_after, count_every, every, up_after, Up, up_distinct, after_none}
@@ -26,11 +24,11 @@ use Rattle.rules.specs.Findings.{area_after}
 use Rattle.rules.specs.Claims.{Clean, AreaHolds}
 use Rattle.rules.proofs.AreaLaws.{area_kept}
 use Rattle.rules.proofs.CleanLaws.{clean_file}
-use Rattle.answers.specs.declared.Answer.{Answer}
-use Rattle.answers.specs.declared.Answer.TheVariants.{Accepted, Date, Long, Book, Ledger, Shape as BadShape, Findings, Full}
-use Rattle.answers.specs.Answers.{Lent, Outcome, file_most, setting_of, findings, added, changed, deleted, is_full, ledger_after, refused, accepted, with_findings, roomed, judged, shaped, check, numbers_of, is_accepted, is_findings}
+use Rattle.answers.specs.declared.Refusal.TheVariants.{Date, Long, Book, Ledger, Shape as BadShape, Findings, Full}
+use Rattle.answers.specs.Answers.{Answer, Lent, Outcome, file_most, setting_of, findings, added, changed, deleted, is_full, ledger_after, refused, accepted, with_findings, roomed, judged, shaped, check, numbers_of, is_accepted, is_findings}
 use Rattle.demands.specs.Demands.{Demand1, Demand2, LedgerAfter, Unbroken, Room, Shapely, Due}
 use Rattle.demands.proofs.AnswerLaws.{given_due, due_given, only_findings, unbroken_none}
+use Rattle.std.proofs.Common.{Ok, Err}
 
 -- What is left with each answer
 
@@ -51,8 +49,8 @@ judged_left x = go (is_empty (findings x)) (is_full x)
 
 shaped_left : (x : Lent) (s : Shape) → Left x (shaped x s)
 unfolding is_accepted is_findings
-shaped_left x Right = judged_left x
-shaped_left x (Fault n cause) = (refl, refl)
+shaped_left x (Ok u) = judged_left x
+shaped_left x (Err fault) = (refl, refl)
 
 check_left : (x : Lent) → Left x (check x)
 unfolding check is_accepted is_findings
@@ -77,14 +75,8 @@ pub record Accepts (x : Lent) : Type 0 where
 
 accepted_due : (x : Lent) (a : Answer) → Due x a → is_accepted a ≡ true → Accepts x
 unfolding Due is_accepted
-accepted_due x (Accepted a c d n) h e = record { shapely = h.0; unbroken = h.1; room = h.2 }
-accepted_due x Date h e = clash (cc)
-accepted_due x Long h e = clash (cc)
-accepted_due x Book h e = clash (cc)
-accepted_due x Ledger h e = clash (cc)
-accepted_due x (BadShape n cause) h e = clash (cc)
-accepted_due x (Findings n) h e = clash (cc)
-accepted_due x Full h e = clash (cc)
+accepted_due x (Ok a) h e = record { shapely = h.0; unbroken = h.1; room = h.2 }
+accepted_due x (Err r) h e = clash (cc)
 
 pub accepts : (x : Lent) → is_accepted (check x).answer ≡ true → Accepts x
 accepts x e = accepted_due x (check x).answer (given_due x) e
@@ -224,14 +216,14 @@ kept_area x e = (check_left x).1 ∙ ap (λ (c : Bool). cond c (area_after x.are
 
 number_most : (a : Answer) → get_or (numbers_of a) 0 8 ≤ 7
 unfolding numbers_of
-number_most (Accepted a c d n) = omega arith
-number_most Date = omega arith
-number_most Long = omega arith
-number_most Book = omega arith
-number_most Ledger = omega arith
-number_most (BadShape n cause) = omega arith
-number_most (Findings n) = omega arith
-number_most Full = omega arith
+number_most (Ok a) = omega arith
+number_most (Err Date) = omega arith
+number_most (Err Long) = omega arith
+number_most (Err Book) = omega arith
+number_most (Err Ledger) = omega arith
+number_most (Err (BadShape fault)) = omega arith
+number_most (Err (Findings n)) = omega arith
+number_most (Err Full) = omega arith
 
 pub demand_1 : (x : Lent) → Demand1 x (check x)
 demand_1 x =

@@ -1,19 +1,17 @@
 -- The three demands, of a call and of a run of calls, and what a check that is of no use would break: statements. The proofs stand in
 -- proofs/. What is quoted here is from the demands (docs/PROMISES.md), but for the ledger's form and the useless checks, which are document 01's.
 -- Assumes nothing.
-use Rattle.std.specs.Prelude.{◌+◌, ◌≤◌, ◌<◌, ◌≡◌, true, false, ◌⊎◌, ◌↔◌, List, [], ◌∷◌, length, get_or, T}
+use Rattle.std.specs.Prelude.{Ok, Err, ◌+◌, ◌≤◌, ◌<◌, ◌≡◌, true, false, ◌⊎◌, ◌↔◌, List, [], ◌∷◌, length, get_or, T}
 use Rattle.house.specs.Text.{Text, how_many}
 use Rattle.house.specs.Members.{In, Distinct}
 use Rattle.dates.specs.Dates.{is_day}
 use Rattle.lines.specs.Shape.{shape_of}
-use Rattle.lines.specs.declared.Shape.TheVariants.{Right, Fault}
 use Rattle.book.specs.Book.{book_ok}
 use Rattle.ledger.specs.Ledger.{Event, slots_in, ledger_ok, live_in}
 use Rattle.rules.specs.Findings.{Finding}
 use Rattle.rules.specs.Claims.{Broken, Lists, AreaHolds}
-use Rattle.answers.specs.declared.Answer.{Answer}
-use Rattle.answers.specs.declared.Answer.TheVariants.{Accepted, Date, Long, Book, Ledger, Shape as BadShape, Findings, Full}
-use Rattle.answers.specs.Answers.{Lent, Outcome, file_most, setting_of, added, changed, deleted, not_immunized, Gives, numbers_of, is_accepted, is_findings}
+use Rattle.answers.specs.declared.Refusal.TheVariants.{Date, Long, Book, Ledger, Shape as BadShape, Findings, Full}
+use Rattle.answers.specs.Answers.{Answer, Lent, Outcome, file_most, setting_of, added, changed, deleted, not_immunized, Gives, numbers_of, is_accepted, is_findings}
 use Rattle.demands.specs.Runs.{Step, Promise, Run, ledger_after_run, all_added, all_deleted, last_added, is_of}
 
 -- DEMAND 1: "the check ends with one of the numbered answers .. A refused file leaves the ledger byte for byte as lent; the findings area
@@ -55,25 +53,25 @@ pub record Lends (x : Lent) : Type 0 where
 -- and the shape is right, so that its records are judged
 pub record Shapely (x : Lent) : Type 0 where
   pub lends : Lends x
-  pub right : shape_of x.file ≡ Right
+  pub right : shape_of x.file ≡ Ok tt
 
 -- when each answer is due, with its extra numbers: the table of document 01, "The lowest number that applies is given."
 unfoldable pub Due : Lent → Answer → Type 0
-Due x (Accepted a c d n) =
+Due x (Ok a) =
     Shapely x
     × Unbroken x
     × Room x
-    × (length (added x) ≡ a)
-    × (length (changed x) ≡ c)
-    × (length (deleted x) ≡ d)
-    × (not_immunized x ≡ n)
-Due x Date = is_day x.today ≡ false
-Due x Long = (is_day x.today ≡ true) × (file_most < length x.file)
-Due x Book = (is_day x.today ≡ true) × (length x.file ≤ file_most) × (book_ok x.book ≡ false)
-Due x Ledger = (is_day x.today ≡ true) × (length x.file ≤ file_most) × (book_ok x.book ≡ true) × (ledger_ok x.ledger ≡ false)
-Due x (BadShape line cause) = Lends x × (shape_of x.file ≡ Fault line cause)
-Due x (Findings n) = Shapely x × (1 ≤ n) × (ys : List Finding) × ListsAll x ys × (length ys ≡ n)
-Due x Full = Shapely x × Unbroken x × (Room x → ⊥)
+    × (length (added x) ≡ a.added)
+    × (length (changed x) ≡ a.changed)
+    × (length (deleted x) ≡ a.deleted)
+    × (not_immunized x ≡ a.not_immunized)
+Due x (Err Date) = is_day x.today ≡ false
+Due x (Err Long) = (is_day x.today ≡ true) × (file_most < length x.file)
+Due x (Err Book) = (is_day x.today ≡ true) × (length x.file ≤ file_most) × (book_ok x.book ≡ false)
+Due x (Err Ledger) = (is_day x.today ≡ true) × (length x.file ≤ file_most) × (book_ok x.book ≡ true) × (ledger_ok x.ledger ≡ false)
+Due x (Err (BadShape fault)) = Lends x × (shape_of x.file ≡ Err fault)
+Due x (Err (Findings n)) = Shapely x × (1 ≤ n) × (ys : List Finding) × ListsAll x ys × (length ys ≡ n)
+Due x (Err Full) = Shapely x × Unbroken x × (Room x → ⊥)
 
 pub record Demand2 (x : Lent) (o : Outcome) : Type 0 where
   pub exactly : (a : Answer) → (o.answer ≡ a) ↔ Due x a

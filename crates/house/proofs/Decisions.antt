@@ -5,25 +5,26 @@ use mathlib.Core.Bool.{Bool, true, false}
 use mathlib.Core.List.{[], ◌∷◌}
 use mathlib.Core.Logic.{◌⊎◌, inl, inr}
 use lib.Dec.{T}
-use Rattle.house.specs.declared.Order.{Order}
-use Rattle.house.specs.declared.Order.TheVariants.{Less, Same, More}
+use Rattle.std.specs.declared.cmp.Ordering.{Ordering}
+use Rattle.std.specs.declared.cmp.Ordering.TheVariants.{Less, Equal, Greater}
 use Rattle.house.specs.Text.{Text, order_of, is_less, is_same, below, same}
 use Rattle.house.proofs.Small.{clash}
 use Rattle.house.proofs.Facts.{is_true, of_true}
-use Rattle.house.proofs.OrderAlgebra.{flipped, flip, same_eq, less_trans, cons_eq}
+use Rattle.house.proofs.OrderAlgebra.{flip, same_eq, less_trans, cons_eq}
+use Rattle.std.specs.Ordering.{ordering_reverse}
 
 -- what an order says, and the order that says it
-pub less_of : (o : Order) → T (is_less o) → o ≡ Less
+pub less_of : (o : Ordering) → T (is_less o) → o ≡ Less
 less_of Less t = refl
-less_of Same t = absurd t
-less_of More t = absurd t
+less_of Equal t = absurd t
+less_of Greater t = absurd t
 
-pub same_of : (o : Order) → T (is_same o) → o ≡ Same
+pub same_of : (o : Ordering) → T (is_same o) → o ≡ Equal
 same_of Less t = absurd t
-same_of Same t = refl
-same_of More t = absurd t
+same_of Equal t = refl
+same_of Greater t = absurd t
 
-pub order_refl : (a : Text) → order_of a a ≡ Same
+pub order_refl : (a : Text) → order_of a a ≡ Equal
 unfolding order_of
 order_refl [] = refl
 order_refl (x ∷ s) = cons_eq x x s s refl ∙ order_refl s
@@ -55,10 +56,10 @@ pub same_sym : (a b : Text) → same a b ≡ same b a
 unfolding same
 same_sym a b = sym (ap is_same (flip a b) ∙ go (order_of a b))
   where
-    go : (o : Order) → is_same (flipped o) ≡ is_same o
+    go : (o : Ordering) → is_same (ordering_reverse o) ≡ is_same o
     go Less = refl
-    go Same = refl
-    go More = refl
+    go Equal = refl
+    go Greater = refl
 
 -- below
 module _ (a b : Text) where
@@ -83,10 +84,10 @@ below_asym a b p q = below_irrefl a (below_trans a b a p q)
 pub below_any : (a b : Text) → T (below a b) ⊎ ((a ≡ b) ⊎ T (below b a))
 below_any a b = go (order_of a b) refl
   where
-    go : (o : Order) → order_of a b ≡ o → T (below a b) ⊎ ((a ≡ b) ⊎ T (below b a))
+    go : (o : Ordering) → order_of a b ≡ o → T (below a b) ⊎ ((a ≡ b) ⊎ T (below b a))
     go Less e = inl (less_below a b e)
-    go Same e = inr (inl (same_eq a b e))
-    go More e = inr (inr (less_below b a (flip a b ∙ ap flipped e)))
+    go Equal e = inr (inl (same_eq a b e))
+    go Greater e = inr (inr (less_below b a (flip a b ∙ ap ordering_reverse e)))
 
 -- what is not above is below or the same
 pub below_else : (a b : Text) → below a b ≡ false → (a ≡ b) ⊎ T (below b a)

@@ -1,15 +1,19 @@
--- What each need of `eight_digits`, `few_digits` and `all_digits` asks.
+-- What each need of `eight_digits` and `all_digits` asks.
 -- Assumes nothing.
 use mathlib.Core.Path.{◌≡◌, refl, sym, ap, ◌∙◌}
 use mathlib.Core.Bool.{Bool, true, false, ◌&&◌}
-use Prim.Native.Nat.{ℕ, ◌+◌, ◌≤◌, ◌<◌}
+use mathlib.Core.List.{List, [], ◌∷◌}
+use Prim.Native.Nat.{ℕ, zero, suc, ◌+◌, ◌*◌, ◌/◌, ◌≤◌, ◌<◌}
+use native.Mathlib.Numerals.{add-one}
+use native.Mathlib.Omega.{arith}
 use borrow.Author.Rules.{rules}
-use borrow.Author.Tests.{le-leb, lt-leb}
-use lib.ListN.{length, get_or, take, drop, take-append-drop}
-use lib.Seq.{drop-drop}
-use Rattle.house.specs.Text.{Text, within, is_digit, digits}
+use lib.ListN.{length, get_or, take, drop, take-append-drop, drop_of_length-le}
+use lib.Seq.{drop-drop, drop-cons, take_all}
+use Rattle.std.specs.List.{list_all}
+use Rattle.std.specs.Simd.{first_chunks}
+use Rattle.house.specs.Text.{Text, all, is_digit, digits}
 use Rattle.house.proofs.Members.{all_append}
-use Rattle.house.proofs.Suffix.{drop_here, drop_past, eight}
+use Rattle.house.proofs.Suffix.{eight}
 
 -- eight tests, from the left and from the right
 pub together : (a b c d e f g h : Bool) → (a && b && c && d && e && f && g && h) ≡ (a && (b && (c && (d && (e && (f && (g && (h && true))))))))
@@ -24,50 +28,55 @@ together true false c d e f g h = refl
 together false b c d e f g h = refl
 
 -- eight_digits
-pub eight_digits : (s : Text) (i : ℕ) → i + 8 ≤ length s
-    → (within 48 57 (get_or s i 0) && within 48 57 (get_or s (i + 1) 0) && within 48 57 (get_or s (i + 2) 0) && within 48 57 (get_or s (i + 3) 0) && within 48 57 (get_or s (i + 4) 0) && within 48 57 (get_or s (i + 5) 0) && within 48 57 (get_or s (i + 6) 0) && within 48 57 (get_or s (i + 7) 0))
-    ≡ digits (take 8 (drop i s))
-unfolding digits is_digit
-eight_digits s i h =
-    rw (eight s i h)
-    (together (within 48 57 (get_or s i 0)) (within 48 57 (get_or s (i + 1) 0)) (within 48 57 (get_or s (i + 2) 0)) (within 48 57 (get_or s (i + 3) 0)) (within 48 57 (get_or s (i + 4) 0)) (within 48 57 (get_or s (i + 5) 0)) (within 48 57 (get_or s (i + 6) 0)) (within 48 57 (get_or s (i + 7) 0)))
+pub eight_digits : (s : Text) → length s ≡ 8
+    → (is_digit (get_or s 0 0) && is_digit (get_or s 1 0) && is_digit (get_or s 2 0) && is_digit (get_or s 3 0) && is_digit (get_or s 4 0) && is_digit (get_or s 5 0) && is_digit (get_or s 6 0) && is_digit (get_or s 7 0))
+    ≡ digits s
+unfolding digits
+eight_digits s h =
+    together (is_digit (get_or s 0 0)) (is_digit (get_or s 1 0)) (is_digit (get_or s 2 0)) (is_digit (get_or s 3 0)) (is_digit (get_or s 4 0)) (is_digit (get_or s 5 0)) (is_digit (get_or s 6 0)) (is_digit (get_or s 7 0))
+    ∙ ap digits (sym (eight s 0 (omega arith)) ∙ take_all 8 s (omega arith))
 
 pub ruleset for_eight_digits = (rules, eight_digits)
-
--- few_digits
-module _ (t : Text) (i : ℕ) (x : Bool) (inv : x ≡ digits (drop i t)) where
-  module _ (h : i < length t) where
-    pub digit_low : get_or t i 0 < 48 → false ≡ x
-    unfolding digits is_digit
-    digit_low l = rw (inv, drop_here t i h, lt-leb _ _ l)
-
-    pub digit_high : 48 ≤ get_or t i 0 → 57 < get_or t i 0 → false ≡ x
-    unfolding digits is_digit
-    digit_high n l = rw (inv, drop_here t i h, le-leb _ _ n, lt-leb _ _ l)
-
-    pub digit_on : 48 ≤ get_or t i 0 → get_or t i 0 ≤ 57 → x ≡ digits (drop (i + 1) t)
-    unfolding digits is_digit
-    digit_on n l = rw (inv, drop_here t i h, le-leb _ _ n, le-leb _ _ l)
-
-  pub digit_end : length t ≤ i → true ≡ x
-  unfolding digits is_digit
-  digit_end h = rw (inv, drop_past t i h)
-
-pub ruleset for_few_digits = (rules, digit_low, digit_high, digit_on, digit_end)
 
 -- all_digits
 split : (u : Text) (m : ℕ) → digits u ≡ (digits (take m u) && digits (drop m u))
 unfolding digits
 split u m = ap digits (sym (take-append-drop m u)) ∙ all_append is_digit (take m u) (drop m u)
 
-module _ (t : Text) (i : ℕ) (x : Bool) (inv : x ≡ digits (drop i t)) (r : Bool) (e : r ≡ digits (take 8 (drop i t))) where
-  pub digits_on : r ≡ true → x ≡ digits (drop (i + 8) t)
-  digits_on h = inv ∙ split (drop i t) 8 ∙ rw (← e, h) (ap digits (drop-drop 8 i t))
+in_eights : (k : ℕ) (t : Text) → digits t ≡ (all digits (first_chunks 8 k t) && digits (drop (k * 8) t))
+in_eights zero t = refl
+in_eights (suc k) t =
+    split t 8
+    ∙ rw (in_eights k (drop 8 t), drop-drop (k * 8) 8 t, next) (go (digits (take 8 t)) (all digits (first_chunks 8 k (drop 8 t))) (digits (drop (suc k * 8) t)))
+  where
+    next : 8 + k * 8 ≡ suc k * 8
+    next = omega arith
 
-  pub digits_not : r ≡ false → false ≡ x
-  digits_not h = sym (inv ∙ split (drop i t) 8 ∙ rw (← e, h))
+    go : (u v w : Bool) → (u && (v && w)) ≡ ((u && v) && w)
+    go true v w = refl
+    go false v w = refl
 
-pub digits_rest : (t : Text) (i : ℕ) (x r : Bool) → x ≡ digits (drop i t) → r ≡ digits (drop i t) → r ≡ x
-digits_rest t i x r inv e = e ∙ sym inv
+module _ (t : Text) (es : List Text) (r : Text) where
+  pub eights_start : es ≡ first_chunks 8 (length t / 8) t → r ≡ drop (length t / 8 * 8) t → digits t ≡ (all digits (drop 0 es) && digits r)
+  eights_start e f = rw (e, f) (in_eights (length t / 8) t)
 
-pub ruleset for_all_digits = (rules, digits_on, digits_not, digits_rest)
+  module _ (i : ℕ) (x : Bool) (inv : x ≡ (all digits (drop i es) && digits r)) where
+    module _ (h : i < length es) (q : Bool) (e : q ≡ digits (get_or es i [])) where
+      here : x ≡ ((q && all digits (drop (i + 1) es)) && digits r)
+      here = rw (inv, e, add-one, drop-cons es i [])
+
+      pub eights_on : q ≡ true → x ≡ (all digits (drop (i + 1) es) && digits r)
+      eights_on z = here ∙ rw z
+
+      pub eights_not : q ≡ false → false ≡ x
+      eights_not z = sym (here ∙ rw z)
+
+    pub eights_end : length es ≤ i → (p : Bool) → p ≡ list_all is_digit r → p ≡ x
+    unfolding digits
+    eights_end h p e = sym (inv ∙ rw (drop_of_length-le es h) (each r) ∙ sym e)
+      where
+        each : (t : Text) → all is_digit t ≡ list_all is_digit t
+        each [] = refl
+        each (b ∷ t) = ap (λ (u : Bool). is_digit b && u) (each t)
+
+pub ruleset for_all_digits = (rules, eights_start, eights_on, eights_not, eights_end)

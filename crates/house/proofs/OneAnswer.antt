@@ -5,13 +5,15 @@ use mathlib.Core.Bool.{Bool}
 use mathlib.Core.List.{List}
 use Prim.Native.Nat.{ℕ}
 use lib.ListN.{length, set}
-use Rattle.house.specs.declared.Order.{Order}
+use Rattle.std.proofs.Common.{Option, Some, None}
+use Rattle.std.specs.declared.cmp.Ordering.{Ordering}
 use Rattle.house.specs.declared.Key.{Key}
 use Rattle.house.specs.Text.{Text, all, within, order_of, below, same, pad, is_padded, digits}
+use Rattle.house.specs.Search.{binary_search}
 use Rattle.house.specs.Key.{key_of}
 use Rattle.house.specs.Numbers.{lesser_of, greater_of, number_at}
 
-pub compare_one : (a b : Text) (x y : Order) → x ≡ order_of a b → y ≡ order_of a b → x ≡ y
+pub compare_one : (a b : Text) (x y : Ordering) → x ≡ order_of a b → y ≡ order_of a b → x ≡ y
 compare_one a b x y p q = cc
 
 pub before_one : (a b : Text) (x y : Bool) → x ≡ below a b → y ≡ below a b → x ≡ y
@@ -20,10 +22,10 @@ before_one a b x y p q = cc
 pub same_one : (a b : Text) (x y : Bool) → x ≡ same a b → y ≡ same a b → x ≡ y
 same_one a b x y p q = cc
 
-pub compare_padded_one : (code t : Text) (x y : Order) → x ≡ order_of code (pad (length code) t) → y ≡ order_of code (pad (length code) t) → x ≡ y
+pub compare_padded_one : (code t : Text) (x y : Ordering) → x ≡ order_of code (pad (length code) t) → y ≡ order_of code (pad (length code) t) → x ≡ y
 compare_padded_one code t x y p q = cc
 
-pub compare_pads_one : (w : ℕ) (a b : Text) (x y : Order) → x ≡ order_of (pad w a) (pad w b) → y ≡ order_of (pad w a) (pad w b) → x ≡ y
+pub compare_pads_one : (w : ℕ) (a b : Text) (x y : Ordering) → x ≡ order_of (pad w a) (pad w b) → y ≡ order_of (pad w a) (pad w b) → x ≡ y
 compare_pads_one w a b x y p q = cc
 
 pub is_padded_one : (t : Text) (x y : Bool) → x ≡ is_padded t → y ≡ is_padded t → x ≡ y
@@ -55,3 +57,6 @@ lesser_one m n x y p q = cc
 
 pub put_one : (out : List ℕ) (n p : ℕ) (x y : List ℕ) → x ≡ set out n p → y ≡ set out n p → x ≡ y
 put_one out n p x y e f = cc
+
+pub search_by_one : (stands : ℕ → Ordering) (n : ℕ) (x y : Option ℕ) → x ≡ binary_search stands Some None n 0 n → y ≡ binary_search stands Some None n 0 n → x ≡ y
+search_by_one stands n x y p q = cc

@@ -1,4 +1,4 @@
--- What each need of `lesser_byte`, `greater_byte`, `all_within`, `rises_at`, `no_rise` and `is_padded` asks.
+-- What each need of `rises_at`, `no_rise` and `is_padded` asks, and what `all_within` holds to.
 -- Assumes nothing.
 use mathlib.Core.Path.{◌≡◌, refl, sym, ap, ◌∙◌, subst}
 use mathlib.Core.Bool.{Bool, true, false, not, cond, ◌&&◌}
@@ -13,23 +13,7 @@ use Rattle.house.specs.Text.{Text, all, within, is_blank, is_graphic, graphic_le
 use Rattle.house.specs.Numbers.{lesser_of, greater_of}
 use Rattle.house.specs.Inside.{rises_at, stays_at, no_rise}
 use Rattle.house.proofs.Small.{both}
-use Rattle.house.proofs.Suffix.{drop_here, drop_past}
-
--- lesser_byte and greater_byte
-module _ (a b : ℕ) where
-  pub lesser_second : b < a → b ≡ lesser_of a b
-  lesser_second h = rw (lt-ltb _ _ h)
-
-  pub lesser_first : a ≤ b → a ≡ lesser_of a b
-  lesser_first h = rw (le-ltb _ _ h)
-
-  pub greater_second : a < b → b ≡ greater_of a b
-  greater_second h = rw (lt-ltb _ _ h)
-
-  pub greater_first : b ≤ a → a ≡ greater_of a b
-  greater_first h = rw (le-ltb _ _ h)
-
-pub ruleset for_bytes = (rules, lesser_second, lesser_first, greater_second, greater_first)
+use Rattle.house.proofs.Suffix.{drop_here}
 
 -- all_within: the answer, where the bytes before those of t are no less than l and no greater than h
 abbrev pub range_in : ℕ → ℕ → ℕ → ℕ → Text → Bool
@@ -59,68 +43,21 @@ greater_high hi h b = go (ltb h b) (ltb hi h) refl refl
     go false true e f = f
     go false false e f = f ∙ sym (le-ltb hi b (omega (arith, ltb-false h b e, ltb-false hi h f)))
 
-leb_ltb : (a b : ℕ) → leb a b ≡ not (ltb b a)
-leb_ltb a b = go (ltb b a) refl
-  where
-    go : (u : Bool) → ltb b a ≡ u → leb a b ≡ not u
-    go true e = lt-leb a b (ltb-true b a e)
-    go false e = le-leb a b (ltb-false b a e)
-
--- four tests, one after the other or two and two
-in_turn : (p q u v w : Bool) → cond p false (cond q false ((not u && not v) && w)) ≡ cond (either p u) false (cond (either q v) false w)
-unfolding either
-in_turn true q u v w = refl
-in_turn false true true v w = refl
-in_turn false true false v w = refl
-in_turn false false true v w = refl
-in_turn false false false true w = refl
-in_turn false false false false w = refl
-
-pub range_holds : (lo hi : ℕ) (t : Text) → all (within lo hi) t ≡ range_in lo hi lo hi (drop 0 t)
-range_holds lo hi t = rw (le-ltb lo lo (omega arith), le-ltb hi hi (omega arith))
-
-module _ (t : Text) (lo hi i l h : ℕ) (x : Bool) (inv : x ≡ range_in lo hi l h (drop i t)) where
-  pub range_on : (m n : ℕ) → i < length t → m ≡ lesser_of l (get_or t i 0) → n ≡ greater_of h (get_or t i 0) → x ≡ range_in lo hi m n (drop (i + 1) t)
-  range_on m n k e f =
-      inv
-      ∙ rw (drop_here t i k, e, f, lesser_low, greater_high, leb_ltb lo (get_or t i 0), leb_ltb (get_or t i 0) hi)
-      (in_turn (ltb l lo) (ltb hi h) (ltb (get_or t i 0) lo) (ltb hi (get_or t i 0)) (all (within lo hi) (drop (i + 1) t)))
-
-  module _ (k : length t ≤ i) where
-    pub range_low : l < lo → false ≡ x
-    range_low m = rw (inv, lt-ltb _ _ m)
-
-    pub range_high : lo ≤ l → leb h hi ≡ x
-    range_high m = rw (inv, le-ltb _ _ m, drop_past t i k, leb_ltb h hi) (go (ltb hi h))
-      where
-        go : (u : Bool) → not u ≡ cond u false true
-        go true = refl
-        go false = refl
-
-pub ruleset for_all_within = (rules, range_holds, range_on, range_low, range_high)
-
 -- rises_at
-module _ (a b : ℕ) where
-  pub rises_stays : a ≡ 32 → b ≡ 32 → 0 ≡ rises_at a b
-  unfolding rises_at
-  rises_stays e f = rw (eq-eqb _ _ e, eq-eqb _ _ f)
+pub rises_is : (a b r : ℕ) → r ≡ cond (eqb a 32 && not (eqb b 32)) 1 0 → r ≡ rises_at a b
+unfolding rises_at
+rises_is a b r e = e ∙ go (eqb a 32) (eqb b 32)
+  where
+    go : (u v : Bool) → ◌≡◌ {A = ℕ} (cond (u && not v) 1 0) (cond u (cond v 0 1) 0)
+    go true true = refl
+    go true false = refl
+    go false v = refl
 
-  pub rises_up : a ≡ 32 → (b ≡ 32 → ⊥) → 1 ≡ rises_at a b
-  unfolding rises_at
-  rises_up e f = rw (eq-eqb _ _ e, ne_eqb _ _ f)
-
-  pub rises_none : (a ≡ 32 → ⊥) → 0 ≡ rises_at a b
-  unfolding rises_at
-  rises_none e = rw (ne_eqb _ _ e)
-
-pub ruleset for_rises_at = (rules, rises_stays, rises_up, rises_none)
+pub ruleset for_rises_at = (rules, rises_is)
 
 -- no_rise: the answer, where so many bytes rise before those of t, none or some
 abbrev pub steady_in : ℕ → Text → Bool
 steady_in r t = cond (eqb r 0) (no_rise t) false
-
-pub steady_holds : (t : Text) → no_rise t ≡ steady_in 0 (drop (1 - 1) t)
-steady_holds t = refl
 
 greater_none : (r s : ℕ) → eqb (cond (ltb r s) s r) 0 ≡ (eqb r 0 && eqb s 0)
 greater_none r s = go (ltb r s) refl (eqb r 0) refl
@@ -159,7 +96,7 @@ module _ (t : Text) (i r : ℕ) (x : Bool) (low : 1 ≤ i) (inv : x ≡ steady_i
       short (b ∷ []) k = refl
       short (b ∷ (c ∷ u)) k = absurd (omega arith)
 
-pub ruleset for_no_rise = (rules, steady_holds, steady_on, steady_end)
+pub ruleset for_no_rise = (rules, steady_on, steady_end)
 
 -- is_padded
 

@@ -3,8 +3,8 @@
 use Rattle.std.specs.Prelude.{ℕ, zero, suc, ◌+◌, ◌-◌, ◌*◌, Bool, true, false, cond, ◌&&◌, ◌||◌, List, [], ◌∷◌, ◌++◌, length, drop, eqb, ltb, leb}
 use Prim.Native.Char.{code}
 use Prim.Native.String.{String, [] as nil, ◌∷◌ as ◌then◌}
-use Rattle.house.specs.declared.Order.{Order}
-use Rattle.house.specs.declared.Order.TheVariants.{Less, Same, More}
+use Rattle.std.specs.declared.cmp.Ordering.{Ordering}
+use Rattle.std.specs.declared.cmp.Ordering.TheVariants.{Less, Equal, Greater}
 
 abbrev pub Text : Type 0
 Text = List ℕ
@@ -70,21 +70,21 @@ module _ {A B : Type 0} where
 -- The order of bytes
 
 -- how two texts stand in the order of bytes; a text stands before those that go on from it
-unfoldable pub order_of : Text → Text → Order
-order_of [] [] = Same
+unfoldable pub order_of : Text → Text → Ordering
+order_of [] [] = Equal
 order_of [] (y ∷ t) = Less
-order_of (x ∷ s) [] = More
-order_of (x ∷ s) (y ∷ t) = cond (ltb x y) Less (cond (ltb y x) More (order_of s t))
+order_of (x ∷ s) [] = Greater
+order_of (x ∷ s) (y ∷ t) = cond (ltb x y) Less (cond (ltb y x) Greater (order_of s t))
 
-abbrev pub is_less : Order → Bool
+abbrev pub is_less : Ordering → Bool
 is_less Less = true
-is_less Same = false
-is_less More = false
+is_less Equal = false
+is_less Greater = false
 
-abbrev pub is_same : Order → Bool
+abbrev pub is_same : Ordering → Bool
 is_same Less = false
-is_same Same = true
-is_same More = false
+is_same Equal = true
+is_same Greater = false
 
 -- the first text stands before the second
 unfoldable pub below : Text → Text → Bool

@@ -1,23 +1,19 @@
 // The event key: "ULI 9 digits, date 8, vaccine 20 padded".
-ghost use Rattle.std.specs.Prelude.{◌≡◌, ◌++◌, ◌≤◌, ◌+◌, take, drop};
+ghost use Rattle.std.specs.Prelude.{◌≡◌, length};
 ghost use Rattle.house.specs.Text.{pad};
 ghost use Rattle.house.specs.Key.{key_of};
 
 use crate::Key;
-use crate::texts::padded_byte;
+use crate::texts::lesser;
 
-// A key with a text, padded to w bytes, put at a place.
-fn put(key: [u8; Key::WIDTH], at: usize, w: usize, text: &[u8]) -> [u8; Key::WIDTH]
-    requires { at + w ≤ 37 }
-    ensures { result ≡ take at key ++ pad w text.now ++ drop (at + w) key }
+// Writes a text into a field of a key, padded to its width.
+fn put(field: &mut [u8], text: &[u8])
+    ensures { field.new ≡ pad (length field.old) text.now }
 {
-    let mut k = key;
-    let mut j = 0;
-    while j < w {
-        k[at + j] = padded_byte(text, j);
-        j += 1;
-    }
-    k
+    let n = lesser(field.len(), text.len());
+    let (front, back) = field.split_at_mut(n);
+    front.copy_from_slice(&text[..n]);
+    back.fill(b' ');
 }
 
 impl Key {
@@ -33,9 +29,12 @@ impl Key {
     pub fn of(uli: &[u8], date: &[u8], vaccine: &[u8]) -> Key
         ensures { result.bytes ≡ key_of uli.now date.now vaccine.now }
     {
-        let a = put([32u8; Self::WIDTH], 0, Self::ULI, uli);
-        let b = put(a, Self::ULI, Self::DATE, date);
-        let c = put(b, Self::ULI + Self::DATE, Self::VACCINE, vaccine);
-        Key { bytes: c }
+        let mut bytes = [b' '; Self::WIDTH];
+        let (first, rest) = bytes.split_at_mut(Self::ULI);
+        let (second, third) = rest.split_at_mut(Self::DATE);
+        put(first, uli);
+        put(second, date);
+        put(third, vaccine);
+        Key { bytes }
     }
 }

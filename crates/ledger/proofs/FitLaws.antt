@@ -8,11 +8,11 @@ use Prim.Native.Nat.{ℕ, zero, suc, ◌≤◌, ◌<◌}
 use native.Mathlib.Omega.{arith}
 use lib.ListN.{length, take, get_or}
 use lib.Seq.{take-suc, take-take}
-use Rattle.house.specs.declared.Order.{Order}
-use Rattle.house.specs.declared.Order.TheVariants.{Less, Same, More}
+use Rattle.std.specs.declared.cmp.Ordering.{Ordering}
+use Rattle.std.specs.declared.cmp.Ordering.TheVariants.{Less, Equal, Greater}
 use Rattle.house.specs.Text.{Text, order_of, below, same}
 use Rattle.house.proofs.Facts.{of_true}
-use Rattle.house.proofs.OrderAlgebra.{flip, flipped, same_eq}
+use Rattle.house.proofs.OrderAlgebra.{flip, same_eq}
 use Rattle.house.proofs.Decisions.{less_below, below_trans}
 use Rattle.lines_places.specs.Sorted.{place}
 use Rattle.lines_places.specs.Inside.{Lt, Le, Over, Under, Upto, Up, Asc}
@@ -21,6 +21,7 @@ use Rattle.lines_places.proofs.Order.{all_take, over_down, place_append, place_s
 use Rattle.ledger.specs.Ledger.{is_among, less}
 use Rattle.ledger.specs.Updates.{whole, not_below, is_next, without, put_after, merged_up_to}
 use Rattle.ledger.proofs.AmongLaws.{among_first, among_later, among_none}
+use Rattle.std.specs.Ordering.{ordering_reverse}
 
 -- 1. The walk
 
@@ -48,12 +49,12 @@ module _ (s : Text) where
   next_among [] a = sym (among_none s [] tt)
   next_among (d ∷ D) a = go (order_of d s) refl (next_among D a.1)
     where
-      go : (o : Order) → order_of d s ≡ o → is_next s (not_below s D) ≡ is_among (not_below s D) s
+      go : (o : Ordering) → order_of d s ≡ o → is_next s (not_below s D) ≡ is_among (not_below s D) s
           → is_next s (cond (below d s) (not_below s D) (d ∷ D)) ≡ is_among (cond (below d s) (not_below s D) (d ∷ D)) s
       go Less e r = rw e r
-      go Same e r = rw (e, e) (sym (among_first s d D (sym (same_eq d s e))))
-      go More e r =
-          let h : Lt s d = less_below s d (flip d s ∙ ap flipped e) in
+      go Equal e r = rw (e, e) (sym (among_first s d D (sym (same_eq d s e))))
+      go Greater e r =
+          let h : Lt s d = less_below s d (flip d s ∙ ap ordering_reverse e) in
           rw (e, e) (sym (among_none s (d ∷ D) (h, over_down whole s d D h a.0)))
 
   -- for slots that stand above, it is as if none had been passed over

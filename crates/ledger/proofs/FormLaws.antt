@@ -12,16 +12,13 @@ use lib.Dec.{eqb, leb}
 use lib.ListN.{length, take, drop, get_or, length-drop, length-map, drop_of_length-le}
 use lib.Seq.{drop-cons, length-take-le, take_all}
 use Rattle.dates.specs.declared.Date.{Date}
-use Rattle.dates.specs.declared.Dated.{Dated}
-use Rattle.dates.specs.declared.Dated.TheVariants.{Day, NoDate}
 use Rattle.house.specs.Text.{Text, all, those, adjacent, chained, below, within, run, digits, is_padded}
 use Rattle.dates.specs.Dates.{dated_of}
 use Rattle.dates.proofs.DateLaws.{dated_true, dated_false}
-use Rattle.ledger.specs.declared.Validity.{Validity}
-use Rattle.ledger.specs.declared.Validity.TheVariants.{Sound, Malformed}
 use Rattle.ledger.specs.Ledger.{slots_in, slots, event_form, is_live_slot, is_free_slot, slot_form, slot_follows, ledger_ok, live_in, valid_of}
 use Rattle.ledger.specs.Inside.{followed, sound_at, sound_from}
 use Rattle.ledger.proofs.SlotLaws.{length_slots}
+use Rattle.std.proofs.Common.{Option, Some, None}
 
 -- is_event
 module _ (e : Text) (n : length e ≡ 37) where
@@ -35,12 +32,12 @@ module _ (e : Text) (n : length e ≡ 37) where
   unfolding event_form run digits
   event_digits g p f = rw (nine, ← p, f)
 
-  module _ (g : Bool) (p : g ≡ digits (take 9 e)) (f : g ≡ true) (r : Dated) (q : r ≡ dated_of (take 8 (drop 9 e))) where
-    pub event_undated : r ≡ NoDate → false ≡ event_form e
+  module _ (g : Bool) (p : g ≡ digits (take 9 e)) (f : g ≡ true) (r : Option Date) (q : r ≡ dated_of (take 8 (drop 9 e))) where
+    pub event_undated : r ≡ None → false ≡ event_form e
     unfolding event_form run digits
     event_undated z = rw (nine, ← p, f, dated_false (take 8 (drop 9 e)) (sym q ∙ z))
 
-    pub event_dated : (d : Date) (b : Bool) → r ≡ Day d → b ≡ is_padded (take 20 (drop 17 e)) → b ≡ event_form e
+    pub event_dated : (d : Date) (b : Bool) → r ≡ Some d → b ≡ is_padded (take 20 (drop 17 e)) → b ≡ event_form e
     unfolding event_form run digits
     event_dated d b z w = rw (nine, ← p, f, dated_true (take 8 (drop 9 e)) d (sym q ∙ z)) (w ∙ ap is_padded rest)
 
@@ -142,20 +139,20 @@ unfolding sound_at followed
 sound_cons t [] = swap (slot_form t) true true true
 sound_cons t (u ∷ us) = swap (slot_form t) (slot_follows t u) (slot_form u && all slot_form us) (chained slot_follows u us)
 
-sound_first : (n : ℕ) (t : Text) (ts : List Text) → sound_from n (t ∷ ts) ≡ cond (sound_at t ts) (sound_from (cond (is_live_slot t) (n + 1) n) ts) Malformed
+sound_first : (n : ℕ) (t : Text) (ts : List Text) → sound_from n (t ∷ ts) ≡ cond (sound_at t ts) (sound_from (cond (is_live_slot t) (n + 1) n) ts) None
 unfolding sound_from
-sound_first n t ts = ap (λ (b : Bool). cond b (Sound (n + length (those is_live_slot (t ∷ ts)))) Malformed) (sound_cons t ts) ∙ go (sound_at t ts) (is_live_slot t) (all slot_form ts && adjacent slot_follows ts) (those is_live_slot ts)
+sound_first n t ts = ap (λ (b : Bool). cond b (Some (n + length (those is_live_slot (t ∷ ts)))) None) (sound_cons t ts) ∙ go (sound_at t ts) (is_live_slot t) (all slot_form ts && adjacent slot_follows ts) (those is_live_slot ts)
   where
-    go : (a b c : Bool) (l : List Text) → cond (a && c) (Sound (n + length (cond b (t ∷ l) l))) Malformed ≡ cond a (cond c (Sound (cond b (n + 1) n + length l)) Malformed) Malformed
+    go : (a b c : Bool) (l : List Text) → cond (a && c) (Some (n + length (cond b (t ∷ l) l))) None ≡ cond a (cond c (Some (cond b (n + 1) n + length l)) None) None
     go true true c l =
         let m : n + length (t ∷ l) ≡ n + 1 + length l = omega arith in
-        ap (λ (k : ℕ). cond c (Sound k) Malformed) m
+        ap (λ (k : ℕ). cond c (Some k) None) m
     go true false c l = refl
     go false b c l = refl
 
-module _ (s : Text) (i n : ℕ) (x : Validity) (inv : x ≡ sound_from n (drop i (slots s))) where
+module _ (s : Text) (i n : ℕ) (x : Option ℕ) (inv : x ≡ sound_from n (drop i (slots s))) where
   module _ (h : i < length s / 38) (g : Bool) (p : g ≡ sound_at (get_or (slots s) i []) (drop (i + 1) (slots s))) where
-    pub slots_wrong : g ≡ false → Malformed ≡ x
+    pub slots_wrong : g ≡ false → None ≡ x
     slots_wrong f = rw (inv, slots_here s i h, sound_first, ← p, f)
 
     module _ (f : g ≡ true) (t : Text) (e : t ≡ get_or (slots s) i []) (k : Bool) (q : k ≡ is_live_slot t) where
@@ -165,24 +162,24 @@ module _ (s : Text) (i n : ℕ) (x : Validity) (inv : x ≡ sound_from n (drop i
       pub slots_free : k ≡ false → x ≡ sound_from n (drop (i + 1) (slots s))
       slots_free z = rw (inv, slots_here s i h, sound_first, ← p, f, ← e, ← q, z)
 
-  pub slots_end : length s / 38 ≤ i → Sound n ≡ x
+  pub slots_end : length s / 38 ≤ i → Some n ≡ x
   unfolding sound_from
-  slots_end h = rw (inv, slots_past s i h) (ap Sound (omega arith))
+  slots_end h = rw (inv, slots_past s i h) (ap Some (omega arith))
 
 pub ruleset for_sound_slots = (rules, slots_wrong, slots_live, slots_free, slots_end)
 
 -- valid
 module _ (s : Text) where
-  pub valid_odd : (length s % 38 ≡ 0 → ⊥) → Malformed ≡ valid_of s
+  pub valid_odd : (length s % 38 ≡ 0 → ⊥) → None ≡ valid_of s
   unfolding valid_of ledger_ok
   valid_odd n = rw (ne_eqb _ _ n)
 
   module _ (w : length s % 38 ≡ 0) where
-    pub valid_long : 100000 < length s / 38 → Malformed ≡ valid_of s
+    pub valid_long : 100000 < length s / 38 → None ≡ valid_of s
     unfolding valid_of ledger_ok slots_in
     valid_long l = rw (eq-eqb _ _ w, lt-leb _ _ l)
 
-    pub valid_slots : (r : Validity) → length s / 38 ≤ 100000 → r ≡ sound_from 0 (slots s) → r ≡ valid_of s
+    pub valid_slots : (r : Option ℕ) → length s / 38 ≤ 100000 → r ≡ sound_from 0 (slots s) → r ≡ valid_of s
     unfolding valid_of ledger_ok slots_in live_in sound_from
     valid_slots r l e =
         let m : 0 + length (those is_live_slot (slots s)) ≡ length (those is_live_slot (slots s)) = omega arith in

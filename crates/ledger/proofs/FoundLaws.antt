@@ -11,10 +11,10 @@ use borrow.Author.Tests.{le-leb}
 use lib.Dec.{eqb, leb}
 use lib.ListN.{length, take, drop, get_or, length-map, get_or-map}
 use lib.Seq.{get_or-take}
-use Rattle.house.specs.declared.Order.TheVariants.{Less, More}
+use Rattle.std.specs.declared.cmp.Ordering.TheVariants.{Less, Greater}
 use Rattle.house.specs.Text.{Text, any, all, those, adjacent, order_of, same}
 use Rattle.house.proofs.Small.{both}
-use Rattle.house.proofs.OrderAlgebra.{flip, flipped, same_eq}
+use Rattle.house.proofs.OrderAlgebra.{flip, same_eq}
 use Rattle.house.proofs.Decisions.{is_same_lem, not_same, below_less, order_refl}
 use Rattle.house.proofs.SearchLaws.{Decides, hit, miss, halve_decides}
 use Rattle.lines_places.specs.Inside.{Lt, Asc}
@@ -24,6 +24,7 @@ use Rattle.ledger.specs.Ledger.{slots_in, slots, is_live_slot, slot_form, slot_f
 use Rattle.ledger.specs.Updates.{whole}
 use Rattle.ledger.proofs.SlotLaws.{length_slots}
 use Rattle.ledger.proofs.LiveLaws.{in_order_lem, live_slots, live_asc}
+use Rattle.std.specs.Ordering.{ordering_reverse}
 
 pub those_le : {A : Type 0} (p : A → Bool) (xs : List A) → length (those p xs) ≤ length xs
 those_le p [] = omega arith
@@ -81,10 +82,10 @@ module _ (l : Text) (h : adjacent slot_follows (slots l) ≡ true) where
       ∙ sym (get_or-map (drop 1) (those is_live_slot (slots l)) i [])
 
   module _ (e : Text) where
-    rows_up : (i j : ℕ) → i < j → j < length (live_in l) → (order_of (event_in l i) e ≡ Less) ⊎ (order_of (event_in l j) e ≡ More)
+    rows_up : (i j : ℕ) → i < j → j < length (live_in l) → (order_of (event_in l i) e ≡ Less) ⊎ (order_of (event_in l j) e ≡ Greater)
     rows_up i j p q =
         ⊎_elim
-        (λ le. inr (ap (λ (x : Text). order_of x e) (event_at_lem j q) ∙ flip e (get_or (live_in l) j []) ∙ ap flipped (below_less e (get_or (live_in l) j []) (le_lt_trans e (get_or (live_in l) i []) (get_or (live_in l) j []) le (asc_at i j (live_in l) live_up p q)))))
+        (λ le. inr (ap (λ (x : Text). order_of x e) (event_at_lem j q) ∙ flip e (get_or (live_in l) j []) ∙ ap ordering_reverse (below_less e (get_or (live_in l) j []) (le_lt_trans e (get_or (live_in l) i []) (get_or (live_in l) j []) le (asc_at i j (live_in l) live_up p q)))))
         (λ lt. inl (ap (λ (x : Text). order_of x e) (event_at_lem i (omega arith)) ∙ below_less (get_or (live_in l) i []) e lt))
         (order e (get_or (live_in l) i []))
 

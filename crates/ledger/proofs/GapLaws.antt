@@ -13,8 +13,8 @@ use borrow.Author.Tests.{lt-ltb, le-leb, ltb-true, ltb-false}
 use lib.Dec.{ltb}
 use lib.ListN.{length, take, drop, get_or, set, drop_of_length-le}
 use lib.Seq.{drop-cons, drop-drop, drop-set-lt, take-suc-set, get_or-drop, get_or-take, length-take-le}
-use Rattle.house.specs.declared.Order.{Order}
-use Rattle.house.specs.declared.Order.TheVariants.{Less, Same, More}
+use Rattle.std.specs.declared.cmp.Ordering.{Ordering}
+use Rattle.std.specs.declared.cmp.Ordering.TheVariants.{Less, Equal, Greater}
 use Rattle.house.specs.Text.{Text, order_of, below, same}
 use Rattle.house.proofs.Small.{clash}
 use Rattle.house.proofs.Suffix.{drop_here, drop_past}
@@ -41,8 +41,8 @@ before_at f ds d h =
     rw (lt-ltb 0 (d + 1) (omega arith), le-leb (d + 1) (length ds) (omega arith), e)
 
 -- how the first slot of a list stands to slot t; above it where there is none
-unfoldable head_order : List Text → Text → Order
-head_order [] t = More
+unfoldable head_order : List Text → Text → Ordering
+head_order [] t = Greater
 head_order (s ∷ ss) t = order_of s t
 
 -- the first slot that is left, by how the first delete that is left stands to it
@@ -51,12 +51,12 @@ module _ (s : Text) (rest : List Text) where
   unfolding head_order without below
   step_under y D e = rw e
 
-  step_gone : (D : List Text) → head_order D s ≡ Same → without D (s ∷ rest) ≡ without D rest
+  step_gone : (D : List Text) → head_order D s ≡ Equal → without D (s ∷ rest) ≡ without D rest
   unfolding head_order without below same
   step_gone [] e = clash (cc)
   step_gone (y ∷ D) e = rw (e, e)
 
-  step_kept : (D : List Text) → head_order D s ≡ More → without D (s ∷ rest) ≡ s ∷ without D rest
+  step_kept : (D : List Text) → head_order D s ≡ Greater → without D (s ∷ rest) ≡ s ∷ without D rest
   unfolding head_order without below same
   step_kept [] e = refl
   step_kept (y ∷ D) e = rw (e, e)
@@ -95,7 +95,7 @@ module _ (f : Text) (ds : List ℕ) (l₀ : Text) (n : ℕ) where
     pub gaps_in : w ≤ length l₀ / 38
     gaps_in = omega (arith, g.fits, g.order, g.end)
 
-    module _ (more : r < n) (del : Text) (is-del : del ≡ slot_before f ds (d + 1)) (s : Text) (is : s ≡ get_or (slots l) r []) (o : Order) (is-o : o ≡ order_if (ltb d (length ds)) del s) where
+    module _ (more : r < n) (del : Text) (is-del : del ≡ slot_before f ds (d + 1)) (s : Text) (is : s ≡ get_or (slots l) r []) (o : Ordering) (is-o : o ≡ order_if (ltb d (length ds)) del s) where
       -- the slot is as it was
       here : s ≡ get_or (slots l₀) r []
       here =
@@ -116,7 +116,7 @@ module _ (f : Text) (ds : List ℕ) (l₀ : Text) (n : ℕ) where
       unfolding order_if head_order
       eo = is-o ∙ go (ltb d (length ds)) refl
         where
-          go : (u : Bool) → ltb d (length ds) ≡ u → cond u (order_of del s) More ≡ head_order (slots_for f (drop d ds)) s
+          go : (u : Bool) → ltb d (length ds) ≡ u → cond u (order_of del s) Greater ≡ head_order (slots_for f (drop d ds)) s
           go true e = rw (for_here f ds d (ltb-true d (length ds) e), is-del ∙ before_at f ds d (ltb-true d (length ds) e))
           go false e = rw (for_past f ds d (ltb-false d (length ds) e))
 
@@ -124,7 +124,7 @@ module _ (f : Text) (ds : List ℕ) (l₀ : Text) (n : ℕ) where
       unfolding order_if
       there z = go (ltb d (length ds)) refl (sym is-o ∙ z)
         where
-          go : (u : Bool) → ltb d (length ds) ≡ u → cond u (order_of del s) More ≡ Less → d < length ds
+          go : (u : Bool) → ltb d (length ds) ≡ u → cond u (order_of del s) Greater ≡ Less → d < length ds
           go true e c = ltb-true d (length ds) e
           go false e c = clash (cc)
 
@@ -154,7 +154,7 @@ module _ (f : Text) (ds : List ℕ) (l₀ : Text) (n : ℕ) where
             rest = g.rest;
           }
 
-      pub gaps_gone : o ≡ Same → Gaps l w (r + 1) d
+      pub gaps_gone : o ≡ Equal → Gaps l w (r + 1) d
       gaps_gone z =
           let R : List Text = drop (r + 1) (take n (slots l₀)) in
           let q : without (slots_for f (drop d ds)) (drop r (take n (slots l₀))) ≡ without (slots_for f (drop d ds)) R =
@@ -169,7 +169,7 @@ module _ (f : Text) (ds : List ℕ) (l₀ : Text) (n : ℕ) where
             rest = next;
           }
 
-      pub gaps_kept : (m : Text) → o ≡ More → slots m ≡ set (slots l) w s → length m ≡ length l → Gaps m (w + 1) (r + 1) d
+      pub gaps_kept : (m : Text) → o ≡ Greater → slots m ≡ set (slots l) w s → length m ≡ length l → Gaps m (w + 1) (r + 1) d
       gaps_kept m z e q =
           let R : List Text = drop (r + 1) (take n (slots l₀)) in
           let t : without (slots_for f (drop d ds)) (drop r (take n (slots l₀))) ≡ s ∷ without (slots_for f (drop d ds)) R =

@@ -5,14 +5,14 @@ use mathlib.Core.Bool.{Bool}
 use mathlib.Core.List.{List}
 use Prim.Native.Nat.{ℕ}
 use Rattle.house.specs.Text.{Text}
-use Rattle.ledger.specs.declared.Validity.{Validity}
 use Rattle.ledger.specs.Ledger.{valid_of, found_in}
 use Rattle.ledger.specs.Updates.{updated}
+use Rattle.std.proofs.Common.{Option}
 
 one : {A : Type 0} {x r q : A} → r ≡ x → q ≡ x → r ≡ q
 one e f = e ∙ sym f
 
-valid : (s : Text) (r q : Validity) → r ≡ valid_of s → q ≡ valid_of s → r ≡ q
+valid : (s : Text) (r q : Option ℕ) → r ≡ valid_of s → q ≡ valid_of s → r ≡ q
 valid s r q = one
 
 is_live : (s : Text) (n : ℕ) (k : Text) (r q : Bool) → r ≡ found_in s n k → q ≡ found_in s n k → r ≡ q

@@ -1,12 +1,10 @@
 -- What the crate's own functions answer: cited by private contracts and by laws. No public contract rests on this page.
 -- Assumes nothing.
-use Rattle.std.specs.Prelude.{ℕ, ◌+◌, ◌-◌, ◌/◌, ◌≤◌, ◌≡◌, Bool, true, not, cond, ◌&&◌, List, [], ◌∷◌, ◌++◌, length, get_or, take, drop, replicate, leb, ltb}
-use Rattle.house.specs.declared.Order.{Order}
-use Rattle.house.specs.declared.Order.TheVariants.{More}
+use Rattle.std.specs.Prelude.{ℕ, ◌+◌, ◌-◌, ◌/◌, ◌≤◌, ◌≡◌, Bool, true, not, cond, ◌&&◌, List, [], ◌∷◌, ◌++◌, length, get_or, take, drop, replicate, leb, ltb, Option, Some, None}
+use Rattle.std.specs.declared.cmp.Ordering.{Ordering}
+use Rattle.std.specs.declared.cmp.Ordering.TheVariants.{Greater}
 use Rattle.house.specs.Text.{Text, all, those, adjacent, order_of, below}
 use Rattle.lines_places.specs.Events.{event_at, events_at, ascends}
-use Rattle.ledger.specs.declared.Validity.{Validity}
-use Rattle.ledger.specs.declared.Validity.TheVariants.{Sound, Malformed}
 use Rattle.ledger.specs.Ledger.{slot_bytes, slots, is_live_slot, slot_form, slot_follows, live_in, live_slot, events_after}
 use Rattle.ledger.specs.Updates.{slots_for, without, merged_up_to}
 
@@ -20,16 +18,16 @@ unfoldable pub sound_at : Text → List Text → Bool
 sound_at t ts = slot_form t && followed t ts
 
 -- what the check answers where n slots are live and these are left
-unfoldable pub sound_from : ℕ → List Text → Validity
-sound_from n ts = cond (all slot_form ts && adjacent slot_follows ts) (Sound (n + length (those is_live_slot ts))) Malformed
+unfoldable pub sound_from : ℕ → List Text → Option ℕ
+sound_from n ts = cond (all slot_form ts && adjacent slot_follows ts) (Some (n + length (those is_live_slot ts))) None
 
 -- the slot of the event of the line at the place before place j of a list; zeros where there is none
 unfoldable pub slot_before : Text → List ℕ → ℕ → Text
 slot_before f ps j = cond (ltb 0 j && leb j (length ps)) (live_slot (event_at f (get_or ps (j - 1) 0))) (replicate slot_bytes 0)
 
 -- how slot t stands to slot s; above it where there is no slot t
-unfoldable pub order_if : Bool → Text → Text → Order
-order_if there t s = cond there (order_of t s) More
+unfoldable pub order_if : Bool → Text → Text → Ordering
+order_if there t s = cond there (order_of t s) Greater
 
 -- there is a slot before i, and it does not stand below slot t
 unfoldable pub goes_last : List Text → ℕ → Text → Bool

@@ -2,12 +2,10 @@
 -- "Ledger, at most 100,000 slots of 38 bytes: kind 1 (a live event: ULI 9 digits, date 8, vaccine 20 padded) or kind 0 (free, 37 zero
 -- bytes). Live slots come first and ascend strictly; free ones follow. Zero slots is a valid ledger."
 -- Assumes nothing.
-use Rattle.std.specs.Prelude.{ℕ, zero, suc, ◌-◌, ◌*◌, ◌/◌, ◌%◌, Bool, true, false, not, cond, ◌&&◌, List, [], ◌∷◌, ◌++◌, map, length, get_or, take, drop, replicate, eqb, leb}
+use Rattle.std.specs.Prelude.{ℕ, zero, suc, ◌-◌, ◌*◌, ◌/◌, ◌%◌, Bool, true, false, not, cond, ◌&&◌, List, [], ◌∷◌, ◌++◌, map, length, get_or, take, drop, replicate, eqb, leb, Option, Some, None}
 use Rattle.house.specs.Text.{Text, any, all, those, joined, adjacent, order_of, same, below, run, is_digit, is_padded}
 use Rattle.dates.specs.Dates.{is_date}
 use Rattle.house.specs.Search.{binary_search}
-use Rattle.ledger.specs.declared.Validity.{Validity}
-use Rattle.ledger.specs.declared.Validity.TheVariants.{Sound, Malformed}
 
 -- an event: the 37 bytes of its key
 abbrev pub Event : Type 0
@@ -64,8 +62,8 @@ unfoldable pub live_in : Text → List Event
 live_in s = map (drop 1) (those is_live_slot (slots s))
 
 -- what the check of a ledger answers
-unfoldable pub valid_of : Text → Validity
-valid_of s = cond (ledger_ok s) (Sound (length (live_in s))) Malformed
+unfoldable pub valid_of : Text → Option ℕ
+valid_of s = cond (ledger_ok s) (Some (length (live_in s))) None
 
 unfoldable pub is_among : List Event → Event → Bool
 is_among es e = any (same e) es

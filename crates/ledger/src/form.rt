@@ -4,8 +4,8 @@ ghost use Rattle.ledger.specs.Ledger.{slot_bytes, event_bytes, slots, event_form
 ghost use Rattle.ledger.specs.Inside.{sound_at, sound_from};
 
 use crate::slots::{is_live_slot, slot};
-use crate::{MOST_SLOTS, SLOT, Validity};
-use dates::{Date, Dated};
+use crate::{MOST_SLOTS, SLOT};
+use dates::Date;
 
 // Whether 37 bytes are an event: a ULI of nine digits, a date, a padded vaccine code.
 fn is_event(event: &[u8]) -> bool
@@ -15,8 +15,8 @@ fn is_event(event: &[u8]) -> bool
     if house::all_digits(&event[0..9]) {
         let dated = Date::of(&event[9..17]);
         match dated {
-            Dated::Day(_) => house::is_padded(&event[17..37]),
-            Dated::NoDate => false,
+            Some(_) => house::is_padded(&event[17..37]),
+            None => false,
         }
     } else {
         false
@@ -77,36 +77,30 @@ fn is_sound_at(ledger: &[u8], i: usize) -> bool
 }
 
 // Whether each slot has its form and may follow the one before it, and how many are live: one pass.
-fn sound_slots(ledger: &[u8]) -> Validity
+fn sound_slots(ledger: &[u8]) -> Option<usize>
     ensures { result ≡ sound_from 0 (slots ledger.now) }
 {
-    let n = ledger.len() / SLOT;
     let mut live = 0;
-    let mut i = 0;
-    while i < n {
-        if is_sound_at(ledger, i) {
-            if is_live_slot(slot(ledger, i)) {
-                live += 1;
-                i += 1;
-                continue;
-            }
-            i += 1;
-        } else {
-            return Validity::Malformed;
+    for i in 0..ledger.len() / SLOT {
+        if !is_sound_at(ledger, i) {
+            return None;
+        }
+        if is_live_slot(slot(ledger, i)) {
+            live += 1;
         }
     }
-    Validity::Sound { live }
+    Some(live)
 }
 
 // Whether a ledger has the form, and how many events are live in it.
-pub fn valid(ledger: &[u8]) -> Validity
+pub fn valid(ledger: &[u8]) -> Option<usize>
     ensures { result ≡ valid_of ledger.now }
 {
     if ledger.len() % SLOT != 0 {
-        return Validity::Malformed;
+        return None;
     }
     if MOST_SLOTS < ledger.len() / SLOT {
-        return Validity::Malformed;
+        return None;
     }
     sound_slots(ledger)
 }

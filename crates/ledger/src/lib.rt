@@ -15,10 +15,3 @@ pub const SLOT: usize = 38;
 
 // "at most 100,000 slots"
 pub(crate) const MOST_SLOTS: usize = 100000;
-
-// What the check of a ledger answers: how many events are live, or that it has not the form.
-#[derive(Clone, Copy)]
-pub enum Validity {
-    Sound { live: usize },
-    Malformed,
-}

@@ -14,8 +14,7 @@ pub(crate) fn slot(ledger: &[u8], i: usize) -> &[u8]
     ensures result_len { length result.now ≡ slot_bytes }
 {
     let at = i * SLOT;
-    let end = at + SLOT;
-    &ledger[at..end]
+    &ledger[at..at + SLOT]
 }
 
 // Whether a slot is of kind 1.
@@ -31,13 +30,8 @@ pub(crate) fn read_slot(ledger: &[u8], i: usize) -> [u8; SLOT]
     requires { i < length ledger.now / slot_bytes }
     ensures { result ≡ get_or (slots ledger.now) i [] }
 {
-    let at = i * SLOT;
     let mut s = [0u8; SLOT];
-    let mut j = 0;
-    while j < SLOT {
-        s[j] = ledger[at + j];
-        j += 1;
-    }
+    s.copy_from_slice(slot(ledger, i));
     s
 }
 
@@ -47,11 +41,7 @@ pub(crate) fn write_slot(ledger: &mut [u8], i: usize, s: [u8; SLOT])
     ensures { slots ledger.new ≡ set (slots ledger.old) i s }
 {
     let at = i * SLOT;
-    let mut j = 0;
-    while j < SLOT {
-        ledger[at + j] = s[j];
-        j += 1;
-    }
+    ledger[at..at + SLOT].copy_from_slice(&s);
 }
 
 // The slot of a live event.
@@ -59,11 +49,7 @@ fn slot_of(key: [u8; Key::WIDTH]) -> [u8; SLOT]
     ensures { result ≡ 1 ∷ key }
 {
     let mut s = [1u8; SLOT];
-    let mut j = 0;
-    while j < Key::WIDTH {
-        s[1 + j] = key[j];
-        j += 1;
-    }
+    s[1..].copy_from_slice(&key);
     s
 }
 

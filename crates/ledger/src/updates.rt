@@ -7,16 +7,16 @@ ghost use Rattle.ledger.specs.Inside.{order_if, goes_last, last_of, kept_of, mer
 use crate::SLOT;
 use crate::find::slots_asked;
 use crate::slots::{read_slot, slot, slot_before, write_slot};
-use house::Order;
+use std::cmp::Ordering;
 
 // How slot t stands to slot s; above it where there is no slot t.
-fn stands_to(there: bool, t: [u8; SLOT], s: [u8; SLOT]) -> Order
+fn stands_to(there: bool, t: [u8; SLOT], s: [u8; SLOT]) -> Ordering
     ensures { result ≡ order_if there t s }
 {
     if there {
         house::compare(&t, &s)
     } else {
-        Order::More
+        Ordering::Greater
     }
 }
 
@@ -31,18 +31,19 @@ fn compact(ledger: &mut [u8], n: usize, file: &[u8], deletes: &[u32]) -> usize
     let mut r = 0;
     let mut d = 0;
     let mut t = slot_before(file, deletes, 1);
+    // Not a `for`: the slots and the deletes are walked side by side, now the one, now the other.
     while r < n {
         let s = read_slot(ledger, r);
         let o = stands_to(d < deletes.len(), t, s);
         match o {
-            Order::Less => {
+            Ordering::Less => {
                 d += 1;
                 t = slot_before(file, deletes, d + 1);
             }
-            Order::Same => {
+            Ordering::Equal => {
                 r += 1;
             }
-            Order::More => {
+            Ordering::Greater => {
                 write_slot(ledger, w, s);
                 w += 1;
                 r += 1;
@@ -109,6 +110,7 @@ fn merge_in(ledger: &mut [u8], n: usize, file: &[u8], adds: &[u32]) -> usize
     let mut i = n;
     let mut j = adds.len();
     let mut t = slot_before(file, adds, j);
+    // Not a `for`: the slots and the adds are walked side by side, now the one, now the other.
     while 0 < j {
         if put_last(ledger, i, i + j - 1, t) {
             i -= 1;
@@ -125,12 +127,7 @@ fn clear_from(ledger: &mut [u8], from: usize)
     requires { from ≤ length ledger.old }
     ensures { ledger.new ≡ take from ledger.old ++ replicate (length ledger.old - from) 0 }
 {
-    let n = ledger.len() - from;
-    let mut j = 0;
-    while j < n {
-        ledger[from + j] = 0;
-        j += 1;
-    }
+    ledger[from..].fill(0);
 }
 
 // The same, where the adds have room after the first n; else all stay.

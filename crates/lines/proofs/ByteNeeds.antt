@@ -1,4 +1,4 @@
--- What each need of `is_printable`, `raised`, `is_plain_but`, `stray_at`, `no_stray`, `is_plain` and `has_right_bytes` asks.
+-- What each need of `is_printable`, `is_plain_but`, `no_stray`, `is_plain` and `has_right_bytes` asks.
 -- Assumes nothing.
 use mathlib.Core.Path.{◌≡◌, refl, sym, ap, ◌∙◌}
 use mathlib.Core.Bool.{Bool, true, false, not, cond, ◌&&◌}
@@ -16,7 +16,7 @@ use Rattle.house.proofs.Suffix.{drop_here, drop_past}
 use Rattle.house.proofs.PadLaws.{either, lesser_low, greater_high}
 use Rattle.lines_fields.specs.Lines.{LF, CR}
 use Rattle.lines.specs.Shape.{printable}
-use Rattle.lines.specs.Inside.{greatest, raised_of, plain_but, stray_at, no_stray, plain}
+use Rattle.lines.specs.Inside.{raised_of, plain_but, stray_at, no_stray, plain}
 use Rattle.lines.proofs.PlainLaws.{lf_plain, crlf_plain}
 
 -- is_printable
@@ -45,23 +45,6 @@ in_turn false false true v w = refl
 in_turn false false false true w = refl
 in_turn false false false false w = refl
 
--- raised
-module _ (b e : ℕ) where
-  pub raised_lf : b ≡ LF → greatest ≡ raised_of e b
-  unfolding raised_of
-  raised_lf p = rw (eq-eqb _ _ p)
-
-  module _ (n : b ≡ LF → ⊥) where
-    pub raised_end : b ≡ e → greatest ≡ raised_of e b
-    unfolding raised_of
-    raised_end p = rw (ne_eqb _ _ n, eq-eqb _ _ p)
-
-    pub raised_not : (b ≡ e → ⊥) → b ≡ raised_of e b
-    unfolding raised_of
-    raised_not p = rw (ne_eqb _ _ n, ne_eqb _ _ p)
-
-pub ruleset for_raised = (rules, raised_lf, raised_end, raised_not)
-
 -- is_plain_but: the answer, where the bytes before those of t are no less than l and no greater than h
 abbrev pub plain_in : ℕ → ℕ → ℕ → Text → Bool
 plain_in e l h t = cond (ltb l 32) false (cond (ltb 126 h) false (plain_but e t))
@@ -88,22 +71,6 @@ module _ (e : ℕ) (t : Text) (i l h : ℕ) (x : Bool) (inv : x ≡ plain_in e l
         go false e = le-leb h 126 (ltb-false 126 h e)
 
 pub ruleset for_is_plain_but = (rules, but_holds, but_on, but_low, but_high)
-
--- stray_at
-module _ (b c : ℕ) where
-  pub stray_ends : b ≡ CR → c ≡ LF → 0 ≡ stray_at b c
-  unfolding stray_at
-  stray_ends e f = rw (eq-eqb _ _ e, eq-eqb _ _ f)
-
-  pub stray_is : b ≡ CR → (c ≡ LF → ⊥) → 1 ≡ stray_at b c
-  unfolding stray_at
-  stray_is e f = rw (eq-eqb _ _ e, ne_eqb _ _ f)
-
-  pub stray_none : (b ≡ CR → ⊥) → 0 ≡ stray_at b c
-  unfolding stray_at
-  stray_none e = rw (ne_eqb _ _ e)
-
-pub ruleset for_stray_at = (rules, stray_ends, stray_is, stray_none)
 
 -- no_stray: the answer, where so many CR are stray before those of t, none or some
 abbrev pub stray_in : ℕ → Text → Bool

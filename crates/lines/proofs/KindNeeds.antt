@@ -1,4 +1,4 @@
--- What each need of `letter_kind`, `kind_of`, `count_of`, `one_of_two`, `one_of_three` and `may_follow` asks.
+-- What each need of `kind_of` asks.
 -- Assumes nothing.
 use mathlib.Core.Path.{◌≡◌, refl, sym, ◌∙◌}
 use mathlib.Core.Bool.{Bool, true, false, cond}
@@ -12,8 +12,7 @@ use lib.Dec.{eqb}
 use lib.ListN.{length, get_or}
 use Rattle.house.specs.Text.{Text}
 use Rattle.lines_fields.specs.Lines.{pipe, lengthen, fields_of}
-use Rattle.lines.specs.Records.{IV, IH, IP, II, IE, IN, IA, IF, letter_kind, kind_of, record_of, count_of}
-use Rattle.lines.specs.Shape.{is_one, follows}
+use Rattle.lines.specs.Records.{letter_kind, kind_of, record_of}
 
 -- kind_of: the kind by the first three bytes
 letter_pipe : letter_kind pipe ≡ 0
@@ -75,38 +74,3 @@ module _ (t : Text) (h : 3 ≤ length t) where
   kind_two k e n g = simp (g, kind_is t h, eq-eqb _ _ e, eq-eqb _ _ n)
 
 pub ruleset for_kind_of = (rules, kind_short, kind_other, kind_open, kind_two)
-
--- one_of_two, one_of_three
-module _ (p a : ℕ) where
-  pub one_first : (xs : List ℕ) → p ≡ a → true ≡ is_one (a ∷ xs) p
-  unfolding is_one
-  one_first xs e = simp (eq-eqb _ _ e)
-
-  pub one_rest : (xs : List ℕ) (r : Bool) → (p ≡ a → ⊥) → r ≡ is_one xs p → r ≡ is_one (a ∷ xs) p
-  unfolding is_one
-  one_rest xs r n e = simp (ne_eqb _ _ n) e
-
-pub one_none : (p : ℕ) → false ≡ is_one [] p
-unfolding is_one
-one_none p = refl
-
-pub ruleset for_one_of = (rules, one_first, one_rest, one_none)
-
--- the rest of each table
-module _ (b : ℕ) (v : b ≡ code "V" → ⊥) (h : b ≡ code "H" → ⊥) (p : b ≡ code "P" → ⊥) (i : b ≡ code "I" → ⊥)
-    (e : b ≡ code "E" → ⊥) (n : b ≡ code "N" → ⊥) (a : b ≡ code "A" → ⊥) (f : b ≡ code "F" → ⊥) where
-  pub letter_none : 0 ≡ letter_kind b
-  unfolding letter_kind
-  letter_none = simp (ne_eqb _ _ v, ne_eqb _ _ h, ne_eqb _ _ p, ne_eqb _ _ i, ne_eqb _ _ e, ne_eqb _ _ n, ne_eqb _ _ a, ne_eqb _ _ f)
-
-module _ (k : ℕ) (v : k ≡ IV → ⊥) (h : k ≡ IH → ⊥) (p : k ≡ IP → ⊥) (i : k ≡ II → ⊥)
-    (e : k ≡ IE → ⊥) (n : k ≡ IN → ⊥) (a : k ≡ IA → ⊥) (f : k ≡ IF → ⊥) where
-  pub count_none : 0 ≡ count_of k
-  unfolding count_of
-  count_none = simp (ne_eqb _ _ v, ne_eqb _ _ h, ne_eqb _ _ p, ne_eqb _ _ i, ne_eqb _ _ e, ne_eqb _ _ n, ne_eqb _ _ a, ne_eqb _ _ f)
-
-  pub follow_none : (q : ℕ) → false ≡ follows q k
-  unfolding follows
-  follow_none q = simp (ne_eqb _ _ v, ne_eqb _ _ h, ne_eqb _ _ p, ne_eqb _ _ i, ne_eqb _ _ e, ne_eqb _ _ n, ne_eqb _ _ a, ne_eqb _ _ f)
-
-pub ruleset for_kind = (rules, letter_none, count_none, follow_none)

@@ -10,5 +10,7 @@ mod KindNeeds
 mod PlainLaws
 mod ByteNeeds
 mod FaultNeeds
+-- What docs/TRACE names
+mod CauseLaws
 -- No second answer
 mod OneAnswer

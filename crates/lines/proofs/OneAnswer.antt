@@ -4,9 +4,8 @@ use mathlib.Core.Path.{◌≡◌, sym, ◌∙◌}
 use mathlib.Core.Bool.{Bool}
 use Prim.Native.Nat.{ℕ}
 use Rattle.house.specs.Text.{Text}
-use Rattle.lines.specs.declared.Shape.{Shape}
 use Rattle.lines.specs.Records.{record_of}
-use Rattle.lines.specs.Shape.{shape_of, follows}
+use Rattle.lines.specs.Shape.{Shape, shape_of, follows}
 
 one : {A : Type 0} {x r q : A} → r ≡ x → q ≡ x → r ≡ q
 one e f = e ∙ sym f

@@ -1,6 +1,8 @@
 -- What the crate's own functions answer: cited by private contracts and by laws alone. No public contract rests on this page.
 -- Assumes nothing.
-use Rattle.std.specs.Prelude.{ℕ, ◌≡◌, Bool, true, false, not, cond, ◌&&◌, List, [], ◌∷◌, length, eqb, ltb}
+use Rattle.std.specs.Prelude.{ℕ, ◌≡◌, Bool, true, false, not, cond, ◌&&◌, List, [], ◌∷◌, length, eqb, ltb, Option, Some, None}
+use Rattle.lines.specs.declared.Cause.{Cause}
+use Rattle.lines.specs.declared.Cause.TheVariants.{UnknownType, FieldCount, Order}
 use Rattle.house.specs.Text.{Text, all}
 use Rattle.lines_fields.specs.Lines.{LF, CR, Line, ending_of, lines_of, fields_of}
 use Rattle.lines.specs.Records.{IF, record_of, count_of}
@@ -42,14 +44,14 @@ unfoldable pub plain : Text → Bool
 plain [] = true
 plain (b ∷ s) = cond (eqb (ending_of (b ∷ s)) 0) (printable (b ∷ [])) true && plain s
 
--- the lowest of causes 4 to 6 at a record of kind k with n fields that follows one of kind p, 0 for none
-unfoldable pub kind_cause : ℕ → ℕ → ℕ → ℕ
-kind_cause p k n = cond (eqb k 0) 4 (cond (not (eqb n (count_of k))) 5 (cond (not (follows p k)) 6 0))
+-- the lowest of causes 4 to 6 at a record of kind k with n fields that follows one of kind p, if there is one
+unfoldable pub kind_cause : ℕ → ℕ → ℕ → Option Cause
+kind_cause p k n = cond (eqb k 0) (Some UnknownType) (cond (not (eqb n (count_of k))) (Some FieldCount) (cond (not (follows p k)) (Some Order) None))
 
 -- every line is without fault, the first following a record of kind p, and the last is an IF
 unfoldable pub RightFrom : ℕ → List Line → Type 0
 RightFrom p [] = p ≡ IF
-RightFrom p (l ∷ ls) = (cause_of p l ≡ 0) × RightFrom (record_of l.text) ls
+RightFrom p (l ∷ ls) = (cause_of p l ≡ None) × RightFrom (record_of l.text) ls
 
 -- what a line without fault is
 pub record RightLine (p : ℕ) (l : Line) : Type 0 where

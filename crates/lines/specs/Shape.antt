@@ -1,9 +1,10 @@
 -- The shape of a submission: the causes of a fault, the order of records, and the first fault.
 -- Assumes nothing.
-use Rattle.std.specs.Prelude.{ℕ, ◌+◌, ◌-◌, Bool, true, false, not, cond, List, [], ◌∷◌, length, get_or, eqb, ltb}
+use Rattle.std.specs.Prelude.{ℕ, ◌+◌, ◌-◌, Bool, true, false, not, cond, List, [], ◌∷◌, length, get_or, eqb, ltb, Option, Some, None, Result, Ok, Err, ⊤}
 use Rattle.house.specs.Text.{Text}
-use Rattle.lines.specs.declared.Shape.{Shape}
-use Rattle.lines.specs.declared.Shape.TheVariants.{Right, Fault}
+use Rattle.lines.specs.declared.Cause.{Cause}
+use Rattle.lines.specs.declared.Cause.TheVariants.{NoLineFeed, WrongByte, NoPipe, UnknownType, FieldCount, Order, NoEnd}
+use Rattle.lines.specs.declared.Fault.{Fault}
 use Rattle.lines_fields.specs.Lines.{Line, lines_of, fields_of, pipe}
 use Rattle.lines.specs.Records.{IV, IH, IP, II, IE, IN, IA, IF, record_of, count_of}
 
@@ -64,19 +65,46 @@ cause5 l = not (eqb (length (fields_of l.text)) (count_of (record_of l.text)))
 unfoldable pub cause6 : ℕ → Line → Bool
 cause6 p l = not (follows p (record_of l.text))
 
--- the lowest cause at a line that follows one of kind p, 0 for none
-unfoldable pub cause_of : ℕ → Line → ℕ
+-- the numbers of the causes
+abbrev pub number_of : Cause → ℕ
+number_of NoLineFeed = 1
+number_of WrongByte = 2
+number_of NoPipe = 3
+number_of UnknownType = 4
+number_of FieldCount = 5
+number_of Order = 6
+number_of NoEnd = 7
+
+-- the lowest cause at a line that follows one of kind p, if there is one
+unfoldable pub cause_of : ℕ → Line → Option Cause
 cause_of p l =
-    cond (cause1 l) 1 (cond (cause2 l) 2 (cond (cause3 l) 3 (cond (cause4 l) 4 (cond (cause5 l) 5 (cond (cause6 p l) 6 0)))))
+    cond (cause1 l) (Some NoLineFeed)
+    (cond (cause2 l) (Some WrongByte)
+    (cond (cause3 l) (Some NoPipe)
+    (cond (cause4 l) (Some UnknownType)
+    (cond (cause5 l) (Some FieldCount)
+    (cond (cause6 p l) (Some Order) None)))))
 
 -- "7. the file ended before its IF, the line then being one past the last"
 unfoldable pub cause7 : ℕ → Bool
 cause7 p = not (eqb p IF)
 
+-- a file's shape: right, or a fault
+abbrev pub Shape : Type 0
+Shape = Result ⊤ Fault
+
+abbrev pub fault : ℕ → Cause → Shape
+fault n c = Err (record { line = n; cause = c })
+
+-- of line n and what follows it: the line's fault, or the shape of what follows
+abbrev pub shape_at : ℕ → Option Cause → Shape → Shape
+shape_at n (Some cause) rest = fault n cause
+shape_at n None rest = rest
+
 -- "The first line with a fault is reported, with its lowest cause": from line n on, after a record of kind p
 unfoldable pub shape_from : ℕ → ℕ → List Line → Shape
-shape_from n p [] = cond (cause7 p) (Fault n 7) Right
-shape_from n p (l ∷ ls) = cond (eqb (cause_of p l) 0) (shape_from (n + 1) (record_of l.text) ls) (Fault n (cause_of p l))
+shape_from n p [] = cond (cause7 p) (fault n NoEnd) (Ok tt)
+shape_from n p (l ∷ ls) = shape_at n (cause_of p l) (shape_from (n + 1) (record_of l.text) ls)
 
 unfoldable pub shape_of : Text → Shape
 shape_of s = shape_from 1 0 (lines_of s)

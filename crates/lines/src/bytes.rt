@@ -17,6 +17,7 @@ fn is_printable(text: &[u8]) -> bool
 }
 
 // A byte where the least is looked for: an LF and the byte end count as the greatest.
+#[tactic(auto, unfolding(crate::specs::Inside::raised_of))]
 fn raised(b: u8, end: u8) -> u8
     ensures { result ≡ raised_of end b }
 {
@@ -36,12 +37,9 @@ fn is_plain_but(file: &[u8], end: u8) -> bool
 {
     let mut least: u8 = 32;
     let mut most: u8 = 126;
-    let mut i = 0;
-    while i < file.len() {
-        let b = file[i];
-        least = lesser_byte(least, raised(b, end));
-        most = greater_byte(most, b);
-        i += 1;
+    for b in file {
+        least = lesser_byte(least, raised(*b, end));
+        most = greater_byte(most, *b);
     }
     if least < 32 {
         return false;
@@ -50,6 +48,7 @@ fn is_plain_but(file: &[u8], end: u8) -> bool
 }
 
 // 1 where a byte is a CR and the next is no LF, else 0.
+#[tactic(auto, unfolding(crate::specs::Inside::stray_at))]
 fn stray_at(b: u8, c: u8) -> u8
     ensures { result ≡ stray_at b c }
 {
@@ -70,15 +69,13 @@ fn no_stray(file: &[u8]) -> bool
         return true;
     }
     let mut stray: u8 = 0;
-    let mut i = 1;
-    while i < file.len() {
+    for i in 1..file.len() {
         stray = greater_byte(stray, stray_at(file[i - 1], file[i]));
-        i += 1;
     }
     if stray != 0 {
         return false;
     }
-    file[i - 1] != b'\r'
+    file[file.len() - 1] != b'\r'
 }
 
 // Whether a file is found to have no byte outside 32..126 but in its lines' endings. These are looked for as the first line ends,

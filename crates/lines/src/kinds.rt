@@ -1,8 +1,9 @@
 // The kinds of records: their types, their field counts, and their order.
-ghost use Rattle.std.specs.Prelude.{◌≡◌, [], ◌∷◌};
+ghost use Rattle.std.specs.Prelude.{◌≡◌};
 ghost use Rattle.lines.specs.Records.{letter_kind, record_of, count_of};
-ghost use Rattle.lines.specs.Shape.{is_one, follows};
+ghost use Rattle.lines.specs.Shape.{follows};
 
+// Numbers, no enum: `may_follow` and the rules answer for every number, and an enum would ask more of their callers.
 pub const IV: u8 = 1;
 
 pub const IH: u8 = 2;
@@ -20,6 +21,7 @@ pub const IA: u8 = 7;
 pub const IF: u8 = 8;
 
 // The kind by the letter after the I, 0 for none.
+#[tactic(auto, unfolding(crate::specs::Records::letter_kind))]
 fn letter_kind(b: u8) -> u8
     ensures { result ≡ letter_kind b }
 {
@@ -53,6 +55,7 @@ pub fn kind_of(text: &[u8]) -> u8
 }
 
 // How many fields a record of a kind has.
+#[tactic(auto, unfolding(crate::specs::Records::count_of))]
 pub(crate) fn count_of(k: u8) -> usize
     ensures { result ≡ count_of k }
 {
@@ -69,41 +72,20 @@ pub(crate) fn count_of(k: u8) -> usize
     }
 }
 
-// Whether p is one of these kinds.
-fn one_of_two(p: u8, a: u8, b: u8) -> bool
-    ensures { result ≡ is_one (a ∷ b ∷ []) p }
-{
-    if p == a {
-        return true;
-    }
-    if p == b {
-        return true;
-    }
-    false
-}
-
-fn one_of_three(p: u8, a: u8, b: u8, c: u8) -> bool
-    ensures { result ≡ is_one (a ∷ b ∷ c ∷ []) p }
-{
-    if p == a {
-        return true;
-    }
-    one_of_two(p, b, c)
-}
-
 // Whether a record of kind k may follow one of kind p, 0 being the file's start.
+#[tactic(auto, unfolding(crate::specs::Shape::follows, crate::specs::Shape::is_one))]
 pub fn may_follow(p: u8, k: u8) -> bool
     ensures { result ≡ follows p k }
 {
     match k {
         IV => p == 0,
         IH => p == IV,
-        IP => one_of_three(p, IH, IE, IA),
-        II => one_of_two(p, IP, IE),
-        IE => one_of_two(p, II, IE),
-        IN => one_of_three(p, IP, IE, IA),
-        IA => one_of_two(p, IN, IA),
-        IF => one_of_three(p, IH, IE, IA),
+        IP => matches!(p, IH | IE | IA),
+        II => matches!(p, IP | IE),
+        IE => matches!(p, II | IE),
+        IN => matches!(p, IP | IE | IA),
+        IA => matches!(p, IN | IA),
+        IF => matches!(p, IH | IE | IA),
         _ => false,
     }
 }

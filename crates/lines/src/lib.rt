@@ -10,9 +10,21 @@ pub use kinds::{IA, IE, IF, IH, II, IN, IP, IV, kind_of, may_follow};
 pub use lines_fields::{field, field_position, find_field, has_field, lines_on};
 pub use lines_places::MOST_PLACES;
 
-// A file's shape: right, or the first line with a fault and its lowest cause.
+// The causes of a fault of shape, in document 01's order.
 #[derive(Clone, Copy)]
-pub enum Shape {
-    Right,
-    Fault { line: usize, cause: u8 },
+pub enum Cause {
+    NoLineFeed,
+    WrongByte,
+    NoPipe,
+    UnknownType,
+    FieldCount,
+    Order,
+    NoEnd,
+}
+
+// A fault of shape: the first line that has one, and its lowest cause.
+#[derive(Clone, Copy)]
+pub struct Fault {
+    pub line: usize,
+    pub cause: Cause,
 }

@@ -2,14 +2,14 @@
 -- Assumes nothing.
 use mathlib.Core.Path.{◌≡◌, refl, sym, ap, ◌∙◌}
 use mathlib.Core.Bool.{Bool, true, false, cond}
-use mathlib.Core.List.{List, [], ◌∷◌}
+use mathlib.Core.List.{List, [], ◌∷◌, ◌++◌}
 use Prim.Native.Nat.{ℕ, zero, suc, ◌+◌, ◌-◌, ◌≤◌, ◌<◌}
 use native.Mathlib.Nat.{zero-add, add-zero}
 use native.Mathlib.Omega.{arith}
 use borrow.Author.Tests.{ltb-true, ltb-false}
 use lib.Dec.{eqb, ltb}
 use lib.ListN.{length, get_or, take, drop, length-drop}
-use lib.Seq.{drop-drop, drop-nil, get_or-drop, get_or-take, length-take-le}
+use lib.Seq.{drop-drop, drop-nil, get_or-drop, get_or-take, length-take-le, take-append_seam, drop-append_seam}
 use Rattle.house.specs.Text.{Text}
 use Rattle.lines_fields.specs.Lines.{pipe, lengthen, fields_of, field_of, fields_len}
 use Rattle.lines_fields.specs.Inside.{pipe_len}
@@ -90,6 +90,9 @@ fields_split (suc n) (b ∷ t) = go (eqb b pipe) (fields_split n t)
         ≡ length (cond u ([] ∷ fields_of (take n t)) (lengthen b (fields_of (take n t)))) + length (fields_of (drop n t))
     go true r = omega (arith, r)
     go false r = rw (lengthen_length, lengthen_length) r
+
+pub fields_join : (u r : Text) → length (fields_of (u ++ r)) ≡ length (fields_of u) + length (fields_of r)
+fields_join u r = fields_split (length u) (u ++ r) ∙ rw (take-append_seam, drop-append_seam)
 
 -- a search for the start of a field passes over n bytes in which fewer fields end
 pub fields_pass : (n f : ℕ) (t : Text) → n ≤ length t → length (fields_of (take n t)) < f → fields_len f t ≡ n + fields_len (f - length (fields_of (take n t))) (drop n t)

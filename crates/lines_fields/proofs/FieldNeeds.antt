@@ -1,24 +1,26 @@
 -- What each need of `count_few`, `few_from`, `count_fields`, `pass_over`, `field_start`, `pipe_from`, `field_of`, `field`, `has_field` and `field_position` asks.
 -- Assumes nothing.
-use mathlib.Core.Path.{◌≡◌, refl, sym, ◌∙◌}
-use mathlib.Core.Bool.{Bool, true, false, cond}
-use mathlib.Core.List.{[], ◌∷◌}
+use mathlib.Core.Path.{◌≡◌, refl, sym, ap, ◌∙◌}
+use mathlib.Core.Bool.{Bool, true, false, cond, not}
+use mathlib.Core.List.{[], ◌∷◌, ◌++◌}
 use Prim.Native.Nat.{ℕ, zero, suc, ◌+◌, ◌-◌, ◌≤◌, ◌<◌}
-use native.Mathlib.Nat.{zero-add, add-zero, add-sub_cancel_left}
+use native.Mathlib.Nat.{zero-add, add-zero}
 use native.Mathlib.Numerals.{sub-one}
 use native.Mathlib.Omega.{arith}
 use borrow.Author.Rules.{rules}
-use borrow.Author.Tests.{eq-eqb, ne_eqb, ltb-true}
+use borrow.Author.Tests.{eq-eqb, ne_eqb, ltb-true, ltb-false}
 use lib.Dec.{eqb, ltb}
-use lib.ListN.{length, get_or, take, drop, length-drop}
-use lib.Seq.{drop-drop, length-take-le}
+use lib.ListN.{length, get_or, take, drop, length-drop, length-append}
+use lib.Seq.{drop-drop, take-append_seam, drop-append_seam}
+use Rattle.std.specs.Prelude.{Option, Some, None, position}
+use Rattle.std.specs.List.{position_or_len}
 use Rattle.house.specs.Text.{Text}
 use Rattle.house.proofs.Small.{clash}
-use Rattle.house.proofs.Suffix.{drop_here, drop_past}
+use Rattle.house.proofs.Suffix.{drop_here, drop_past, rest}
 use Rattle.lines_fields.specs.Lines.{pipe, text_len, fields_of, field_of, text_at, is_there, field_text, field_there, lines_len, fields_len, field_position}
 use Rattle.lines_fields.specs.Inside.{pipe_len}
 use Rattle.lines_fields.proofs.LineLaws.{text_le, text_after}
-use Rattle.lines_fields.proofs.FieldLaws.{lengthen_length, fields_few, fields_split, fields_pass, fields_first, fields_none, fields_le, field_first, start_zero}
+use Rattle.lines_fields.proofs.FieldLaws.{lengthen_length, fields_few, fields_join, fields_pass, fields_first, fields_none, fields_le, field_first, start_zero}
 
 -- count_few, count_fields: the count x, from a position i with n fields counted; a turn leaves m
 pub count_holds : (t : Text) → length (fields_of t) ≡ 0 + length (fields_of t)
@@ -38,22 +40,20 @@ module _ (t : Text) (i n x : ℕ) (inv : x ≡ n + length (fields_of (drop i t))
   unfolding fields_of
   count_end h = rw inv (simp (drop_past t i h, add-zero))
 
-  -- a run of bytes, of which k fields end
-  module _ (e k : ℕ) (m : i < e) (l : e ≤ length t) (c : k ≡ length (fields_of (take (e - i) (drop i t)))) where
-    pub run_on : x ≡ n + k + length (fields_of (drop e t))
-    run_on =
-        let a : i + (e - i) ≡ e = omega arith in
-        rw (inv, fields_split (e - i) (drop i t), drop-drop (e - i) i t, a, ← c) (omega arith)
-
-    pub run_few : n ≤ i → n + k ≤ e
-    run_few h = omega (arith, c, fields_few (take (e - i) (drop i t)), length-take-le (e - i) (drop i t) (omega (arith, length-drop i t)))
-
 pub ruleset for_count_few = (rules, count_holds, count_pipe, count_on, count_end)
 
-pub run_short : (t : Text) (i e : ℕ) → i < e → e ≤ length t → e ≤ i + 255 → length (take (e - i) (drop i t)) ≤ 255
-run_short t i e m l h = omega (arith, length-take-le (e - i) (drop i t) (omega (arith, length-drop i t)))
+-- count_fields: a run u of the bytes that are left, of which k fields end
+module _ (t s u r : Text) (n k : ℕ) (e : s ≡ u ++ r) (c : k ≡ length (fields_of u)) where
+  pub run_on : length (fields_of t) ≡ n + length (fields_of s) → length (fields_of t) ≡ n + k + length (fields_of r)
+  run_on inv = rw (inv, e, fields_join u r, ← c) (omega arith)
 
-pub ruleset for_count_fields = (rules, count_holds, run_on, run_few, run_short, count_end)
+  pub run_few : n + length s ≤ length t → n + k + length r ≤ length t
+  run_few h = omega (arith, c, fields_few u, ap length e, length-append u r)
+
+pub run_end : (t s : Text) (n : ℕ) → length s ≡ 0 → length (fields_of t) ≡ n + length (fields_of s) → n ≡ length (fields_of t)
+unfolding fields_of
+run_end t [] n h e = rw (e, add-zero)
+run_end t (b ∷ s) n h e = absurd (omega arith)
 
 -- field_start: the start x, from a position i with f fields left
 pub start_cons : (f b : ℕ) (t : Text) → (f ≡ 0 → ⊥) → fields_len f (b ∷ t) ≡ suc (cond (eqb b pipe) (fields_len (f - 1) t) (fields_len f t))
@@ -68,9 +68,11 @@ pub start_none : (t : Text) (f : ℕ) → f ≡ 0 → 0 ≡ fields_len f t
 start_none t f e = rw (e, start_zero)
 
 module _ (t : Text) (i f x : ℕ) (o : 1 ≤ f) (inv : x ≡ i + fields_len f (drop i t)) where
-  pub start_end : length t ≤ i → i ≡ x
+  pub start_end : length t ≤ i → x ≤ length t → length t ≡ x
   unfolding fields_len
-  start_end h = rw inv (simp (drop_past t i h, add-zero))
+  start_end h l =
+      let e : x ≡ i = rw inv (simp (drop_past t i h, add-zero)) in
+      omega arith
 
   given : f ≡ 0 → ⊥
   given e = omega arith
@@ -91,35 +93,52 @@ module _ (t : Text) (i f x : ℕ) (o : 1 ≤ f) (inv : x ≡ i + fields_len f (d
 
 pub ruleset for_field_start = (rules, start_none, start_end, start_last, start_pipe, start_on)
 
--- pass_over: sixteen bytes, of which k fields end
-module _ (t : Text) (i f k : ℕ) (l : k < f) where
-  pub pass_left : 1 ≤ f - k
-  pass_left = omega arith
+-- pass_over: a run u of the bytes that are left, of which k fields end
+module _ (t u r : Text) (i f k : ℕ) (q : drop i t ≡ u ++ r) (c : k ≡ length (fields_of u)) where
+  pub pass_rest : r ≡ drop (i + length u) t
+  pass_rest = sym (rw (← drop-drop (length u) i t, q) (drop-append_seam u r))
 
-  pub pass_on : (x : ℕ) → x ≡ i + fields_len f (drop i t) → i < length t → 16 ≤ length t - i → k ≡ length (fields_of (take (i + 16 - i) (drop i t)))
-      → x ≡ i + 16 + fields_len (f - k) (drop (i + 16) t)
-  pass_on x inv h m e =
-      let n : i + 16 - i ≡ 16 = omega arith in
-      let c : k ≡ length (fields_of (take 16 (drop i t))) = rw (← n) e in
-      rw (inv, fields_pass 16 f (drop i t) (omega (arith, length-drop i t)) (rw (← c) l), ← c, drop-drop 16 i t) (omega arith)
+  pub pass_on : (x : ℕ) → k < f → x ≡ i + fields_len f (drop i t) → x ≡ i + length u + fields_len (f - k) (drop (i + length u) t)
+  pass_on x l inv =
+      let a : take (length u) (drop i t) ≡ u = rw q (take-append_seam u r) in
+      let e : k ≡ length (fields_of (take (length u) (drop i t))) = rw a c in
+      rw (inv, fields_pass (length u) f (drop i t) (omega (arith, ap length q, length-append u r)) (rw (← e) l), ← e, drop-drop (length u) i t) (omega arith)
 
-pub ruleset for_pass_over = (rules, start_holds, pass_left, pass_on, run_short)
+pub pass_within : (t u r : Text) (i : ℕ) → drop i t ≡ u ++ r → length u ≡ 16 → i + length u ≤ length t
+pass_within t u r i q e = omega (arith, ap length q, length-append u r, length-drop i t)
 
--- pipe_from: the place x of the pipe, from a position i
-module _ (t : Text) (i x : ℕ) (inv : x ≡ i + pipe_len (drop i t)) where
-  pub pipe_hit : i < length t → get_or t i 0 ≡ pipe → i ≡ x
-  unfolding pipe_len
-  pipe_hit h e = rw inv (simp (drop_here t i h, eq-eqb _ _ e, add-zero))
+-- first_field: where its pipe stands
+pipe_place : (t : Text) → position_or_len (λ b. eqb b 124) t ≡ pipe_len t
+unfolding pipe_len
+pipe_place [] = refl
+pipe_place (b ∷ t) = go (eqb b 124) (pipe_place t)
+  where
+    go : (v : Bool) → position_or_len (λ b. eqb b 124) t ≡ pipe_len t → cond (not v) (1 + position_or_len (λ b. eqb b 124) t) 0 ≡ cond v 0 (suc (pipe_len t))
+    go true e = refl
+    go false e = omega (arith, e)
 
-  pub pipe_on : i < length t → (get_or t i 0 ≡ pipe → ⊥) → x ≡ i + 1 + pipe_len (drop (i + 1) t)
-  unfolding pipe_len
-  pipe_on h n = rw inv (simp (drop_here t i h, ne_eqb _ _ n) (omega arith))
+pipe_at : (t : Text) → cond (ltb (pipe_len t) (length t)) (Some (pipe_len t)) None ≡ position (λ b. eqb b 124) t
+pipe_at t = rw (← pipe_place t) refl
 
-  pub pipe_end : length t ≤ i → i ≡ x
-  unfolding pipe_len
-  pipe_end h = rw inv (simp (drop_past t i h, add-zero))
+module _ (t : Text) (r : Option ℕ) (p : r ≡ position (λ b. eqb b 124) t) where
+  pub first_there : (n : ℕ) → r ≡ Some n → take n t ≡ field_of t 1
+  unfolding field_of
+  first_there n e = go (ltb (pipe_len t) (length t)) refl (pipe_at t ∙ sym p ∙ e)
+    where
+      go : (v : Bool) → ltb (pipe_len t) (length t) ≡ v → cond v (Some (pipe_len t)) None ≡ Some n → take n t ≡ field_of t 1
+      go true h k =
+          let z : pipe_len t ≡ n = cc in
+          let l : pipe_len t < length t = ltb-true _ _ h in
+          rw (fields_first t l, z)
+      go false h k = absurd (cc)
 
-pub ruleset for_pipe_from = (rules, pipe_hit, pipe_on, pipe_end)
+  pub first_absent : r ≡ None → [] ≡ field_of t 1
+  unfolding field_of
+  first_absent e = go (ltb (pipe_len t) (length t)) refl (pipe_at t ∙ sym p ∙ e)
+    where
+      go : (v : Bool) → ltb (pipe_len t) (length t) ≡ v → cond v (Some (pipe_len t)) None ≡ None → [] ≡ field_of t 1
+      go true h k = absurd (cc)
+      go false h k = rw (fields_none t (ltb-false _ _ h))
 
 -- field_of: the field's start a and end e
 pub field_zero : (t : Text) (f : ℕ) → f ≡ 0 → [] ≡ field_of t f
@@ -131,38 +150,25 @@ unfolding field_of
 field_pred t zero n = absurd (n refl)
 field_pred t (suc f) n = rw sub-one
 
-module _ (t : Text) (f a e : ℕ) (n : f ≡ 0 → ⊥) (p : a ≡ fields_len (f - 1) t) (q : e ≡ a + pipe_len (drop a t)) where
-  is_first_lem : field_of t f ≡ get_or (fields_of (drop a t)) 0 []
-  is_first_lem = rw p (field_pred t f n ∙ field_first (f - 1) t)
+module _ (t : Text) (f a : ℕ) (n : f ≡ 0 → ⊥) (p : a ≡ fields_len (f - 1) t) where
+  pub field_start_in : a ≤ length t
+  field_start_in = rw p (fields_le (f - 1) t)
 
-  pub field_there_lem : e < length t → take (e - a) (drop a t) ≡ field_of t f
-  field_there_lem h =
-      let k : pipe_len (drop a t) < length (drop a t) = omega (arith, length-drop a t) in
-      rw (is_first_lem, fields_first (drop a t) k, q, add-sub_cancel_left)
+  pub field_is_first : (r : Text) → r ≡ field_of (take (length t - a) (drop a t)) 1 → r ≡ field_of t f
+  unfolding field_of
+  field_is_first r e = e ∙ rw (rest t a, p) (sym (field_pred t f n ∙ field_first (f - 1) t))
 
-  pub field_absent : length t ≤ e → [] ≡ field_of t f
-  field_absent h =
-      let l : a ≤ length t = rw p (fields_le (f - 1) t) in
-      let k : length (drop a t) ≤ pipe_len (drop a t) = omega (arith, length-drop a t) in
-      rw (is_first_lem, fields_none (drop a t) k)
-
-pub ruleset for_field_of = (rules, field_zero, field_there_lem, field_absent)
+pub ruleset for_field_of = (rules, field_zero, field_start_in, field_is_first)
 
 -- field_from
-module _ (t : Text) (a e : ℕ) (q : e ≡ a + pipe_len (drop a t)) where
-  pub from_there : e < length t → take (e - a) (drop a t) ≡ field_of (drop a t) 1
-  unfolding field_of
-  from_there h =
-      let k : pipe_len (drop a t) < length (drop a t) = omega (arith, length-drop a t) in
-      rw (fields_first (drop a t) k, q, add-sub_cancel_left)
+pub from_past : (t : Text) (a : ℕ) → length t < a → [] ≡ field_of (drop a t) 1
+unfolding field_of fields_of
+from_past t a h = rw (drop_past t a (omega arith))
 
-  pub from_absent : length t ≤ e → [] ≡ field_of (drop a t) 1
-  unfolding field_of
-  from_absent h =
-      let k : length (drop a t) ≤ pipe_len (drop a t) = omega (arith, length-drop a t) in
-      rw (fields_none (drop a t) k)
+pub from_is : (t r : Text) (a : ℕ) → r ≡ field_of (take (length t - a) (drop a t)) 1 → r ≡ field_of (drop a t) 1
+from_is t r a e = rw (← rest t a) e
 
-pub ruleset for_field_from = (rules, from_there, from_absent)
+pub ruleset for_field_from = (rules, from_past, from_is)
 
 -- field, has_field
 pub field_text_lem : (s : Text) (n f : ℕ) (t r : Text) → t ≡ text_at s n → r ≡ field_of t f → r ≡ field_text s n f

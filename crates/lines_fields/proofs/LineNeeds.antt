@@ -5,7 +5,7 @@ use mathlib.Core.Bool.{Bool, true, false, not, ◌||◌}
 use mathlib.Core.List.{[], ◌∷◌}
 use Prim.Native.Nat.{ℕ, zero, suc, ◌+◌, ◌-◌, ◌≤◌, ◌<◌}
 use native.Mathlib.Nat.{zero-add, add-zero, add_assoc}
-use native.Mathlib.Numerals.{sub-one}
+use native.Mathlib.Numerals.{add-one}
 use native.Mathlib.Omega.{arith}
 use borrow.Author.Rules.{rules}
 use borrow.Author.Tests.{eq-eqb, ne_eqb, ltb-false}
@@ -18,7 +18,7 @@ use Rattle.house.proofs.Small.{clash}
 use Rattle.lines_fields.specs.declared.LineAt.{LineAt}
 use Rattle.lines_fields.specs.Lines.{LF, CR, lf_next, ending_of, text_len, line_len, line_at, LineIs, text_at, lines_len}
 use Rattle.lines_fields.specs.Inside.{is_low}
-use Rattle.lines_fields.proofs.LineLaws.{ending_plain, text_more, text_stop, text_nil, ended_is, line_is, at_next, at_text, left_falls, text_after, lines_none, lines_le}
+use Rattle.lines_fields.proofs.LineLaws.{ending_plain, text_more, text_stop, text_nil, ended_is, line_is, at_next, at_text, text_after, lines_none, lines_le}
 
 -- ending
 module _ (s : Text) (i : ℕ) where
@@ -138,11 +138,6 @@ line_found s at t e p q =
 pub ruleset for_line_at = (rules, line_found)
 
 -- lines_on: the place x where the line starts, from a position at with k lines left
-start_suc : (k : ℕ) (s : Text) → (k ≡ 0 → ⊥) → lines_len k s ≡ line_len s + lines_len (k - 1) (drop (line_len s) s)
-unfolding lines_len
-start_suc zero s n = absurd (n refl)
-start_suc (suc k) s n = rw sub-one
-
 module _ (s : Text) (at k x : ℕ) (inv : x ≡ at + lines_len k (drop at s)) where
   pub start_done : k ≡ 0 → at ≡ x
   unfolding lines_len
@@ -151,10 +146,11 @@ module _ (s : Text) (at k x : ℕ) (inv : x ≡ at + lines_len k (drop at s)) wh
   pub start_end : length s ≤ at → at ≡ x
   start_end h = rw (inv, drop_past s at h, lines_none, add-zero)
 
-  pub start_on : (q : LineAt) → LineIs s at q → (k ≡ 0 → ⊥) → x ≡ q.next + lines_len (k - 1) (drop q.next s)
-  start_on q e n = rw (inv, start_suc k (drop at s) n, drop-drop, at_next s at q e) (omega arith)
+  pub start_on : (q : LineAt) → LineIs s at q → (j : ℕ) → k ≡ j + 1 → x ≡ q.next + lines_len j (drop q.next s)
+  unfolding lines_len
+  start_on q e j n = rw (inv, n, add-one, drop-drop, at_next s at q e) (omega arith)
 
-pub ruleset for_lines_on = (rules, start_done, start_end, start_on, left_falls)
+pub ruleset for_lines_on = (rules, start_done, start_end, start_on)
 
 -- line_start: from the file's start on
 module _ (s : Text) (k r : ℕ) (e : r ≡ 0 + lines_len k (drop 0 s)) where

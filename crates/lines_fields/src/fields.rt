@@ -1,7 +1,6 @@
 // The fields of a line: texts that a pipe ends.
-ghost use Rattle.std.specs.Prelude.{◌≡◌, ◌+◌, ◌≤◌, ◌<◌, drop, length};
+ghost use Rattle.std.specs.Prelude.{◌≡◌, ◌==◌, ◌+◌, ◌≤◌, drop, length, position};
 ghost use Rattle.lines_fields.specs.Lines.{line_of, fields_of, field_of, field_text, field_there, fields_len, field_position, place_in};
-ghost use Rattle.lines_fields.specs.Inside.{pipe_len};
 
 use crate::FieldPlace;
 use crate::line::{ending, line_start, line_text};
@@ -12,27 +11,12 @@ fn count_few(text: &[u8]) -> u8
     ensures { result ≡ length (fields_of text.now) }
 {
     let mut n: u8 = 0;
-    let mut i = 0;
-    while i < text.len() {
-        if text[i] == b'|' {
+    for b in text {
+        if *b == b'|' {
             n += 1;
         }
-        i += 1;
     }
     n
-}
-
-// The end of at most 255 bytes from a position on.
-fn few_from(text: &[u8], at: usize) -> usize
-    requires { at < length text.now }
-    ensures lower_bound { at < result }
-    ensures upper_bound { result ≤ length text.now }
-    ensures upper_bound_2 { result ≤ at + 255 }
-{
-    if text.len() - at < 255 {
-        return text.len();
-    }
-    at + 255
 }
 
 // How many fields a line's text has.
@@ -40,12 +24,8 @@ pub fn count_fields(text: &[u8]) -> usize
     ensures { result ≡ length (fields_of text.now) }
 {
     let mut n: usize = 0;
-    let mut i = 0;
-    while i < text.len() {
-        let e = few_from(text, i);
-        let k = count_few(&text[i..e]);
-        n += k as usize;
-        i = e;
+    for few in text.chunks(255) {
+        n += count_few(few) as usize;
     }
     n
 }
@@ -63,24 +43,19 @@ fn pass_over(text: &[u8], f: usize) -> Passed
     ensures le_left { 1 ≤ result.left }
     ensures text_value { fields_len f text.now ≡ result.at + fields_len result.left (drop result.at text.now) }
 {
-    let mut at = 0;
-    let mut left = f;
+    let mut p = Passed { at: 0, left: f };
     if f < 4 {
-        return Passed { at, left };
+        return p;
     }
-    while at < text.len() {
-        if text.len() - at < 16 {
-            return Passed { at, left };
+    for run in text.chunks_exact(16) {
+        let n = count_few(run) as usize;
+        if p.left <= n {
+            return p;
         }
-        let e = at + 16;
-        let n = count_few(&text[at..e]) as usize;
-        if left <= n {
-            return Passed { at, left };
-        }
-        at = e;
-        left -= n;
+        p.at += run.len();
+        p.left -= n;
     }
-    Passed { at, left }
+    p
 }
 
 // Where the field after f fields starts, or the text's end.
@@ -91,34 +66,33 @@ pub fn field_start(text: &[u8], f: usize) -> usize
         return 0;
     }
     let p = pass_over(text, f);
-    let mut i = p.at;
     let mut left = p.left;
-    while i < text.len() {
+    for i in p.at..text.len() {
         if text[i] == b'|' {
-            i += 1;
             if left == 1 {
-                return i;
+                return i + 1;
             }
             left -= 1;
-            continue;
         }
-        i += 1;
     }
-    i
+    text.len()
 }
 
-// Where the first pipe from a position on stands, or the text's end.
-fn pipe_from(text: &[u8], at: usize) -> usize
-    ensures { result ≡ at + pipe_len (drop at text.now) }
+// Where the first pipe of a text stands.
+fn first_pipe(text: &[u8]) -> Option<usize>
+    ensures { result ≡ position (λ b. b == 124) text.now }
 {
-    let mut end = at;
-    while end < text.len() {
-        if text[end] == b'|' {
-            return end;
-        }
-        end += 1;
+    text.iter().position(|b| *b == b'|')
+}
+
+// The first field of a text; empty where no pipe ends it.
+fn first_field(text: &[u8]) -> &[u8]
+    ensures { result.now ≡ field_of text.now 1 }
+{
+    match first_pipe(text) {
+        Some(end) => &text[..end],
+        None => &text[..0],
     }
-    end
 }
 
 // Field f of a line's text, counted from 1; empty where it is not there.
@@ -129,22 +103,17 @@ pub fn field_of(text: &[u8], f: usize) -> &[u8]
         return &text[..0];
     }
     let start = field_start(text, f - 1);
-    let end = pipe_from(text, start);
-    if end < text.len() {
-        return &text[start..end];
-    }
-    &text[..0]
+    first_field(&text[start..])
 }
 
 // The field that starts at a position of a line's text; empty where no pipe ends it.
 pub fn field_from(text: &[u8], at: usize) -> &[u8]
     ensures { result.now ≡ field_of (drop at text.now) 1 }
 {
-    let stop = pipe_from(text, at);
-    if stop < text.len() {
-        return &text[at..stop];
+    if text.len() < at {
+        return &text[..0];
     }
-    &text[..0]
+    first_field(&text[at..])
 }
 
 // Where the field after f fields of the line that starts at a position starts, or the end of the line's text.
@@ -154,35 +123,29 @@ pub fn start_at(file: &[u8], at: usize, f: usize) -> usize
     if f == 0 {
         return at;
     }
-    let mut i = at;
     let mut more = f;
-    while i < file.len() {
+    for i in at..file.len() {
         let b = file[i];
         if b == b'|' {
-            i += 1;
             if more == 1 {
-                return i;
+                return i + 1;
             }
             more -= 1;
-            continue;
-        }
-        if b < 14 {
+        } else if b < 14 {
             let e = ending(file, i);
             if e != 0 {
                 return i;
             }
         }
-        i += 1;
     }
-    i
+    file.len().max(at)
 }
 
 // Where the field that starts at a position ends; that position where no pipe ends it within its line.
 fn field_end(file: &[u8], at: usize) -> usize
     ensures { result ≡ at + length (field_of (line_of (drop at file.now)).text 1) }
 {
-    let mut i = at;
-    while i < file.len() {
+    for i in at..file.len() {
         let b = file[i];
         if b == b'|' {
             return i;
@@ -193,7 +156,6 @@ fn field_end(file: &[u8], at: usize) -> usize
                 return at;
             }
         }
-        i += 1;
     }
     at
 }

@@ -24,6 +24,7 @@ pub struct LineAt {
 }
 
 // A field in its file: whether it is there, where its text starts, and how long it is; 0 and 0 where it is not there.
+// No `Option`: `place_in`, by which the contract of `find_field` says it, is such a record.
 #[derive(Clone, Copy)]
 pub struct FieldPlace {
     pub there: bool,

@@ -58,6 +58,7 @@ fn sixteens_from(file: &[u8], at: usize) -> usize
         return i;
     }
     let last = file.len() - 16;
+    // Not over `chunks_exact(16)`: the answer is a position, and the one given may lie past the file's end.
     while i <= last {
         if eight_low(file, i) | eight_low(file, i + 8) {
             return i;
@@ -88,17 +89,16 @@ fn plain_from(file: &[u8], at: usize) -> usize
 fn text_end(file: &[u8], at: usize) -> usize
     ensures { result ≡ at + text_len (drop at file.now) }
 {
-    let mut i = plain_from(file, at);
-    while i < file.len() {
+    let plain = plain_from(file, at);
+    for i in plain..file.len() {
         if file[i] < LOW {
             let n = ending(file, i);
             if n != 0 {
                 return i;
             }
         }
-        i += 1;
     }
-    i
+    file.len().max(plain)
 }
 
 // The line that starts at a position.
@@ -119,13 +119,11 @@ pub fn lines_on(file: &[u8], at: usize, k: usize) -> usize
     ensures { result ≡ at + lines_len k (drop at file.now) }
 {
     let mut start = at;
-    let mut left = k;
-    while start < file.len() {
-        if left == 0 {
+    for _ in 0..k {
+        if file.len() <= start {
             return start;
         }
         start = line_at(file, start).next;
-        left -= 1;
     }
     start
 }

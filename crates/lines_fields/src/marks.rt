@@ -29,19 +29,14 @@ fn mark_pipes(file: &[u8], at: usize, end: usize, marks: &mut [u32]) -> usize
     ensures marked { Marked at (line_of (drop at file.now)).text (result + 1) marks.new }
 {
     marks[0] = at as u32;
-    let mut i = at;
     let mut n: usize = 0;
-    while i < end {
+    for i in at..end {
         if file[i] == b'|' {
-            i += 1;
             n += 1;
             if n <= MOST_MARKED {
-                marks[n] = i as u32;
-                continue;
+                marks[n] = (i + 1) as u32;
             }
-            continue;
         }
-        i += 1;
     }
     n
 }
@@ -55,10 +50,9 @@ fn mark(file: &[u8], at: usize, end: usize, marks: &mut [u32])
     ensures { marks.new ≡ marks_at file.now at }
 {
     let n = mark_pipes(file, at, end, marks);
-    let mut k = n + 1;
-    while k <= MOST_MARKED {
+    let first = n + 1;
+    for k in first..COUNT_MARK {
         marks[k] = end as u32;
-        k += 1;
     }
     marks[COUNT_MARK] = n as u32;
 }
@@ -166,14 +160,5 @@ pub fn judged_at(file: &[u8], at: usize, f: usize) -> &[u8]
 pub fn part(text: &[u8], from: usize, to: usize) -> &[u8]
     ensures { result.now ≡ part text.now from to }
 {
-    if to <= from {
-        return &text[..0];
-    }
-    if text.len() <= from {
-        return &text[..0];
-    }
-    if text.len() < to {
-        return &text[from..];
-    }
-    &text[from..to]
+    text.get(from..to.min(text.len())).unwrap_or(&text[..0])
 }

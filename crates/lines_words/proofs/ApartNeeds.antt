@@ -76,11 +76,11 @@ module _ (key : ℕ → Text) (l : List ℕ) where
     all_kept : length l ≤ i → apart key l ≡ c.kept
     all_kept h = c.whole ∙ rw (drop_past l i h, after_none key e) (append-nil c.kept)
 
-    pub keep_count : length a ≤ i → n ≡ length (apart key l)
-    keep_count h = sym (ap length (all_kept (omega (arith, keep_size))) ∙ c.count)
+    pub keep_count : length l ≤ i → n ≡ length (apart key l)
+    keep_count h = sym (ap length (all_kept h) ∙ c.count)
 
-    pub keep_over : length a ≤ i → a ≡ over (apart key l) l
-    keep_over h = c.area ∙ ap (λ (k : List ℕ). over k l) (sym (all_kept (omega (arith, keep_size))))
+    pub keep_over : length l ≤ i → a ≡ over (apart key l) l
+    keep_over h = c.area ∙ ap (λ (k : List ℕ). over k l) (sym (all_kept h))
 
     pub keep_fits : n ≤ i
     keep_fits = c.fits
@@ -115,6 +115,3 @@ module _ (key : ℕ → Text) (l : List ℕ) where
           }
 
 pub ruleset for_keep_apart = (rules, keep_none, keep_area, keep_start, keep_size, keep_count, keep_over, keep_fits, keep_skip, keep_one)
-
--- the turn that keeps an entry: `search` finds it by this law alone, and not by the whole set
-pub ruleset for_keep_one = (keep_one)

@@ -10,15 +10,16 @@ use native.Mathlib.Omega.{arith}
 use lib.Dec.{eqb}
 use lib.ListN.{length, take, drop, length-take}
 use Rattle.house.specs.Text.{Text, order_of, is_same, same, is_blank, is_empty, after_front, pad}
-use Rattle.house.specs.declared.Order.{Order}
-use Rattle.house.specs.declared.Order.TheVariants.{Less, Same, More}
-use Rattle.house.proofs.OrderAlgebra.{or_else, order_append}
+use Rattle.std.specs.declared.cmp.Ordering.{Ordering}
+use Rattle.std.specs.declared.cmp.Ordering.TheVariants.{Less, Equal, Greater}
+use Rattle.house.proofs.OrderAlgebra.{order_append}
 use Rattle.house.proofs.Decisions.{same_true, is_same_lem, not_same}
 use Rattle.house.proofs.Small.{clash}
 use Rattle.blanks.specs.Blanks.{without_last_blanks, trimmed}
 use Rattle.blanks.proofs.TrimLaws.{trimmed_short}
 use Rattle.lines_words.specs.Words.{event_key, part_at, chart_event, hash_from, event_hash, key_at}
 use Rattle.lines_words.proofs.EventNeeds.{length_part}
+use Rattle.std.specs.Ordering.{ordering_then}
 
 -- what does not end with a blank: nothing is left to drop
 twice_last : (t : Text) → without_last_blanks (without_last_blanks t) ≡ without_last_blanks t
@@ -93,10 +94,10 @@ module _ (s : Text) (w at to : ℕ) where
       ap is_same (order_append (part_at s at w) (part_at s to w) t u (length_part s at w ∙ sym (length_part s to w)))
       ∙ both_same (order_of (part_at s at w) (part_at s to w)) (order_of t u) ∙ ap (λ (b : Bool). b && is_same (order_of t u)) part_same
     where
-      both_same : (o p : Order) → is_same (or_else o p) ≡ (is_same o && is_same p)
+      both_same : (o p : Ordering) → is_same (ordering_then o p) ≡ (is_same o && is_same p)
       both_same Less p = refl
-      both_same Same p = refl
-      both_same More p = refl
+      both_same Equal p = refl
+      both_same Greater p = refl
 
 -- all four
 pub chart_event_same : (s : Text) (p q : ℕ) → same (chart_event s p) (chart_event s q)

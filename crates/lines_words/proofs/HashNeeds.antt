@@ -50,12 +50,17 @@ unfolding pad
 pad_first zero h = absurd (not-suc-le-zero h)
 pad_first (suc n) h = simp unary_clauses
 
-module _ (k g x : ℕ) (inv : x ≡ hash_from g (pad k [])) where
-  pub pad_turn : (f : ℕ) → 0 < k → f ≡ (g * 257 + 32) % hash_bound → x ≡ hash_from f (pad (k - 1) [])
-  pad_turn f h e = inv ∙ ap (hash_from g) (pad_first k h) ∙ hash_first g 32 (pad (k - 1) []) ∙ ap (λ (n : ℕ). hash_from n (pad (k - 1) [])) (sym e)
+module _ (n k g x : ℕ) (inv : x ≡ hash_from g (pad (n - k) [])) where
+  pub pad_turn : (f : ℕ) → k < n → f ≡ (g * 257 + 32) % hash_bound → x ≡ hash_from f (pad (n - (k + 1)) [])
+  pad_turn f h e =
+      let z : n - k - 1 ≡ n - (k + 1) = omega arith in
+      inv ∙ ap (hash_from g) (pad_first (n - k) (omega arith)) ∙ hash_first g 32 (pad (n - k - 1) []) ∙ ap (λ (m : ℕ). hash_from m (pad (n - k - 1) [])) (sym e)
+      ∙ ap (λ (m : ℕ). hash_from f (pad m [])) z
 
-  pub pad_end : k ≤ 0 → g ≡ x
-  pad_end h = let z : k ≡ 0 = omega arith in sym (inv ∙ ap (λ (n : ℕ). hash_from g (pad n [])) z ∙ ap (hash_from g) pad_zero ∙ hash_none g)
+  pub pad_end : n ≤ k → g ≡ x
+  pad_end h =
+      let z : n - k ≡ 0 = omega arith in
+      sym (inv ∙ ap (λ (m : ℕ). hash_from g (pad m [])) z ∙ ap (hash_from g) pad_zero ∙ hash_none g)
 
 pub ruleset for_hash_pad = (rules, pad_turn, pad_end)
 

@@ -6,7 +6,7 @@ use mathlib.Core.List.{List}
 use Prim.Native.Nat.{ℕ}
 use lib.ListN.{length}
 use Rattle.house.specs.Text.{Text, same, order_of}
-use Rattle.house.specs.declared.Order.{Order}
+use Rattle.std.specs.declared.cmp.Ordering.{Ordering}
 use Rattle.house.specs.Over.{over}
 use Rattle.lines_words.specs.Words.{chart_event, event_hash, key_at, in_order, has_between, found_at, keys_among, apart}
 
@@ -30,7 +30,7 @@ module _ (s : Text) (what : ℕ) (es : List ℕ) where
       → a ≡ over (apart (key_at what s) es) es → b ≡ over (apart (key_at what s) es) es → (x ≡ y) × (a ≡ b)
   keep_apart_one x y a b p q u v = (cc, cc)
 
-pub event_order_one : (s : Text) (e f : ℕ) (x y : Order) → x ≡ order_of (chart_event s e) (chart_event s f) → y ≡ order_of (chart_event s e) (chart_event s f) → x ≡ y
+pub event_order_one : (s : Text) (e f : ℕ) (x y : Ordering) → x ≡ order_of (chart_event s e) (chart_event s f) → y ≡ order_of (chart_event s e) (chart_event s f) → x ≡ y
 event_order_one s e f x y p q = cc
 
 pub event_hash_one : (s : Text) (e x y : ℕ) → x ≡ event_hash s e → y ≡ event_hash s e → x ≡ y

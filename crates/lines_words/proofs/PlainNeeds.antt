@@ -11,7 +11,7 @@ use lib.Dec.{eqb, ltb, leb}
 use lib.ListN.{length, get_or, take, drop, length-drop}
 use lib.Seq.{length-take-le}
 use Rattle.house.specs.Text.{Text, order_of, after_front, is_blank, is_empty, pad}
-use Rattle.house.specs.declared.Order.{Order}
+use Rattle.std.specs.declared.cmp.Ordering.{Ordering}
 use Rattle.house.proofs.Small.{clash}
 use Rattle.house.proofs.Suffix.{drop_here}
 use Rattle.blanks.specs.Blanks.{without_last_blanks, trimmed}
@@ -95,7 +95,7 @@ plain_part s at w a e n = go (ltb at (length s)) refl (leb w (length s - at)) re
     go true p false q z r f = absurd (n (ap length f))
     go false p y q z r f = absurd (n (ap length f))
 
-pub plain_stand : (s a b : Text) (p q w : ℕ) (o : Order) → a ≡ plain_at s p w → (length a ≡ 0 → ⊥) → b ≡ plain_at s q w → (length b ≡ 0 → ⊥) → o ≡ order_of a b
+pub plain_stand : (s a b : Text) (p q w : ℕ) (o : Ordering) → a ≡ plain_at s p w → (length a ≡ 0 → ⊥) → b ≡ plain_at s q w → (length b ≡ 0 → ⊥) → o ≡ order_of a b
     → o ≡ order_of (part_at s p w) (part_at s q w)
 plain_stand s a b p q w o x m y n r = rw (← plain_part s p w a x m, ← plain_part s q w b y n) r
 

@@ -7,25 +7,26 @@ ghost use Rattle.lines_words.specs.Words.{key_at, row_between, has_between, has_
 use crate::EVENT;
 use crate::events::one_event;
 use crate::keys::key_order;
-use house::Order;
+use crate::search::search_by;
+use std::cmp::Ordering;
 
 // How f stands to the entries from number `from` on and below number e that have the key of e.
-fn row_between(file: &[u8], what: u8, from: u32, e: u32, f: u32) -> Order
+fn row_between(file: &[u8], what: u8, from: u32, e: u32, f: u32) -> Ordering
     ensures { result ≡ row_between (key_at what file.now) from e f }
 {
     let o = key_order(file, what, f, e);
     match o {
-        Order::Less => Order::Less,
-        Order::Same => {
+        Ordering::Less => Ordering::Less,
+        Ordering::Equal => {
             if f < from {
-                return Order::Less;
+                return Ordering::Less;
             }
             if f < e {
-                return Order::Same;
+                return Ordering::Equal;
             }
-            Order::More
+            Ordering::Greater
         }
-        Order::More => Order::More,
+        Ordering::Greater => Ordering::Greater,
     }
 }
 
@@ -33,71 +34,37 @@ fn row_between(file: &[u8], what: u8, from: u32, e: u32, f: u32) -> Order
 pub fn has_between(file: &[u8], what: u8, entries: &[u32], from: u32, e: u32) -> bool
     ensures { result ≡ has_between (key_at what file.now) entries.now from e }
 {
-    let mut lo = 0;
-    let mut hi = entries.len();
-    while lo < hi {
-        let mid = lo + (hi - lo) / 2;
-        let o = row_between(file, what, from, e, entries[mid]);
-        match o {
-            Order::Less => {
-                lo = mid + 1;
-                continue;
-            }
-            Order::Same => {
-                return true;
-            }
-            Order::More => {
-                hi = mid;
-                continue;
-            }
-        }
-    }
-    false
+    search_by(
+        entries.len(),
+        |i| row_between(file, what, from, e, entries[i]),
+    )
+    .is_some()
 }
 
 // Whether an entry has the key of e.
 fn has_key(file: &[u8], what: u8, entries: &[u32], e: u32) -> bool
     ensures { result ≡ has_key (key_at what file.now) entries.now e }
 {
-    let mut lo = 0;
-    let mut hi = entries.len();
-    while lo < hi {
-        let mid = lo + (hi - lo) / 2;
-        let o = key_order(file, what, entries[mid], e);
-        match o {
-            Order::Less => {
-                lo = mid + 1;
-                continue;
-            }
-            Order::Same => {
-                return true;
-            }
-            Order::More => {
-                hi = mid;
-                continue;
-            }
-        }
-    }
-    false
+    search_by(entries.len(), |i| key_order(file, what, entries[i], e)).is_some()
 }
 
 // How f stands to e: before it, the same, or after it.
-fn row_of(file: &[u8], what: u8, e: u32, f: u32) -> Order
+fn row_of(file: &[u8], what: u8, e: u32, f: u32) -> Ordering
     ensures { result ≡ row_of (key_at what file.now) e f }
 {
     let o = key_order(file, what, f, e);
     match o {
-        Order::Less => Order::Less,
-        Order::Same => {
+        Ordering::Less => Ordering::Less,
+        Ordering::Equal => {
             if e == f {
-                return Order::Same;
+                return Ordering::Equal;
             }
             if e < f {
-                return Order::More;
+                return Ordering::Greater;
             }
-            Order::Less
+            Ordering::Less
         }
-        Order::More => Order::More,
+        Ordering::Greater => Ordering::Greater,
     }
 }
 
@@ -105,37 +72,15 @@ fn row_of(file: &[u8], what: u8, e: u32, f: u32) -> Order
 pub fn find_entry(file: &[u8], what: u8, entries: &[u32], e: u32) -> usize
     ensures { result ≡ found_at (key_at what file.now) entries.now e }
 {
-    let mut lo = 0;
-    let mut hi = entries.len();
-    while lo < hi {
-        let mid = lo + (hi - lo) / 2;
-        let o = row_of(file, what, e, entries[mid]);
-        match o {
-            Order::Less => {
-                lo = mid + 1;
-                continue;
-            }
-            Order::Same => {
-                return mid;
-            }
-            Order::More => {
-                hi = mid;
-                continue;
-            }
-        }
-    }
-    entries.len()
+    search_by(entries.len(), |i| row_of(file, what, e, entries[i])).unwrap_or(entries.len())
 }
 
 // Whether the keys of the first entries are all keys of the second.
 pub fn keys_among(file: &[u8], what: u8, entries: &[u32], others: &[u32]) -> bool
     ensures { result ≡ keys_among (key_at what file.now) entries.now others.now }
 {
-    let mut i = 0;
-    while i < entries.len() {
-        if has_key(file, what, others, entries[i]) {
-            i += 1;
-        } else {
+    for e in entries {
+        if !has_key(file, what, others, *e) {
             return false;
         }
     }
@@ -151,9 +96,9 @@ pub fn one_key(file: &[u8], what: u8, e: u32, f: u32) -> bool
     }
     let o = key_order(file, what, e, f);
     match o {
-        Order::Less => false,
-        Order::Same => true,
-        Order::More => false,
+        Ordering::Less => false,
+        Ordering::Equal => true,
+        Ordering::Greater => false,
     }
 }
 
@@ -167,10 +112,8 @@ pub fn keep_apart(file: &[u8], what: u8, entries: &mut [u32]) -> usize
     }
     let mut last = entries[0];
     let mut n = 1;
-    let mut i = 1;
-    while i < entries.len() {
+    for i in 1..entries.len() {
         let e = entries[i];
-        i += 1;
         if one_key(file, what, last, e) {
             continue;
         }

@@ -5,7 +5,7 @@ ghost use Rattle.blanks.specs.Blanks.{trimmed};
 ghost use Rattle.lines_words.specs.Words.{part_at, chart_event};
 ghost use Rattle.lines_words.specs.Inside.{plain_at, given_at, submitted_at};
 
-use house::Order;
+use std::cmp::Ordering;
 
 // The widths of the four fields, and where they stand behind the start of a record.
 pub(crate) const ULI: usize = 9;
@@ -31,7 +31,7 @@ fn bytes_from(chart: &[u8], at: usize, w: usize) -> &[u8]
     if chart.len() <= at {
         return &chart[..0];
     }
-    let n = house::lesser(w, chart.len() - at);
+    let n = w.min(chart.len() - at);
     &chart[at..at + n]
 }
 
@@ -60,7 +60,7 @@ pub(crate) fn plain_from(chart: &[u8], at: usize, w: usize) -> &[u8]
 }
 
 // How the fields at two places stand, each padded again.
-fn padded_order(chart: &[u8], p: usize, q: usize, w: usize) -> Order
+fn padded_order(chart: &[u8], p: usize, q: usize, w: usize) -> Ordering
     ensures { result ≡ order_of (part_at chart.now p w) (part_at chart.now q w) }
 {
     let a = part_of(chart, p, w);
@@ -69,7 +69,7 @@ fn padded_order(chart: &[u8], p: usize, q: usize, w: usize) -> Order
 }
 
 // The same, and sooner where they need not be trimmed.
-fn part_order(chart: &[u8], p: usize, q: usize, w: usize) -> Order
+fn part_order(chart: &[u8], p: usize, q: usize, w: usize) -> Ordering
     ensures { result ≡ order_of (part_at chart.now p w) (part_at chart.now q w) }
 {
     let a = plain_from(chart, p, w);
@@ -84,44 +84,44 @@ fn part_order(chart: &[u8], p: usize, q: usize, w: usize) -> Order
 }
 
 // How the dates and vaccines of two records stand.
-fn given_order(chart: &[u8], e: u32, f: u32) -> Order
+fn given_order(chart: &[u8], e: u32, f: u32) -> Ordering
     ensures { result ≡ order_of (given_at chart.now e) (given_at chart.now f) }
 {
     let p = e as usize;
     let q = f as usize;
     let o = part_order(chart, p + DATE_AT, q + DATE_AT, DATE);
     match o {
-        Order::Less => Order::Less,
-        Order::Same => part_order(chart, p + VACCINE_AT, q + VACCINE_AT, VACCINE),
-        Order::More => Order::More,
+        Ordering::Less => Ordering::Less,
+        Ordering::Equal => part_order(chart, p + VACCINE_AT, q + VACCINE_AT, VACCINE),
+        Ordering::Greater => Ordering::Greater,
     }
 }
 
 // How the submission types, dates and vaccines of two records stand.
-fn submitted_order(chart: &[u8], e: u32, f: u32) -> Order
+fn submitted_order(chart: &[u8], e: u32, f: u32) -> Ordering
     ensures { result ≡ order_of (submitted_at chart.now e) (submitted_at chart.now f) }
 {
     let p = e as usize;
     let q = f as usize;
     let o = part_order(chart, p + SUBMISSION_AT, q + SUBMISSION_AT, SUBMISSION);
     match o {
-        Order::Less => Order::Less,
-        Order::Same => given_order(chart, e, f),
-        Order::More => Order::More,
+        Ordering::Less => Ordering::Less,
+        Ordering::Equal => given_order(chart, e, f),
+        Ordering::Greater => Ordering::Greater,
     }
 }
 
 // How the events of two records stand.
-pub fn event_order(chart: &[u8], e: u32, f: u32) -> Order
+pub fn event_order(chart: &[u8], e: u32, f: u32) -> Ordering
     ensures { result ≡ order_of (chart_event chart.now e) (chart_event chart.now f) }
 {
     let p = e as usize;
     let q = f as usize;
     let o = part_order(chart, p + ULI_AT, q + ULI_AT, ULI);
     match o {
-        Order::Less => Order::Less,
-        Order::Same => submitted_order(chart, e, f),
-        Order::More => Order::More,
+        Ordering::Less => Ordering::Less,
+        Ordering::Equal => submitted_order(chart, e, f),
+        Ordering::Greater => Ordering::Greater,
     }
 }
 
@@ -131,8 +131,8 @@ pub(crate) fn one_event(chart: &[u8], e: u32, f: u32) -> bool
 {
     let o = event_order(chart, e, f);
     match o {
-        Order::Less => false,
-        Order::Same => true,
-        Order::More => false,
+        Ordering::Less => false,
+        Ordering::Equal => true,
+        Ordering::Greater => false,
     }
 }

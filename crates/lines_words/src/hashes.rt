@@ -16,7 +16,7 @@ fn hash_byte(h: u64, b: u8) -> u64
     ensures value { result ≡ (h * 257 + b) % hash_bound }
     ensures upper_bound { result < hash_bound }
 {
-    (h * 257 + b as u64) % HASH_BOUND
+    (h * 257 + u64::from(b)) % HASH_BOUND
 }
 
 // The number of a text that follows what has the number h.
@@ -26,10 +26,8 @@ fn hash_on(h: u64, text: &[u8]) -> u64
     ensures upper_bound { result < hash_bound }
 {
     let mut r = h;
-    let mut i = 0;
-    while i < text.len() {
-        r = hash_byte(r, text[i]);
-        i += 1;
+    for b in text {
+        r = hash_byte(r, *b);
     }
     r
 }
@@ -41,10 +39,8 @@ fn hash_pad(h: u64, n: usize) -> u64
     ensures upper_bound { result < hash_bound }
 {
     let mut r = h;
-    let mut k = n;
-    while 0 < k {
+    for _ in 0..n {
         r = hash_byte(r, b' ');
-        k -= 1;
     }
     r
 }

@@ -5,6 +5,7 @@ mod asked;
 mod events;
 mod hashes;
 mod keys;
+mod search;
 mod sorting;
 
 pub use asked::{find_entry, has_between, keep_apart, keys_among, one_key};
@@ -13,6 +14,7 @@ pub use hashes::event_hash;
 pub use sorting::sort;
 
 // The key that is a count and a word, and the key that is the event of a chart record behind its number; any other number is for the word alone.
+// No enum: `sort` and what is asked of entries answer for every number, and an enum would ask more of their callers.
 pub const COUNT_AND_WORD: u8 = 1;
 
 pub const EVENT: u8 = 2;

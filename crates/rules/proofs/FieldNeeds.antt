@@ -8,6 +8,8 @@ use Prim.Native.Nat.{ℕ, ◌≤◌}
 use native.Mathlib.Omega.{arith}
 use borrow.Author.Rules.{rules}
 use borrow.Author.Tests.{ne_eqb}
+use Rattle.std.specs.Prelude.{Option, unwrap_or}
+use Rattle.std.specs.Option.{is_some}
 use Rattle.house.specs.Text.{Text}
 use Rattle.lines_fields.specs.Marks.{judged_in}
 use Rattle.lines_fields.specs.Inside.{part}
@@ -20,7 +22,6 @@ use Rattle.rules_fields.specs.declared.Broken.{Broken}
 use Rattle.rules_fields.specs.declared.Day.{Day}
 use Rattle.rules_fields.specs.Fields.{broken, any_end, code_by}
 use Rattle.rules.specs.declared.By.{By}
-use Rattle.rules.specs.declared.DayRead.{DayRead}
 use Rattle.rules.specs.declared.Here.{Here}
 use Rattle.rules.specs.Fields.{day_until, ii_day, Judges}
 use Rattle.rules.proofs.ToldLaws.{kind_told, in_asked, ia_asked, judges_rest, judges_at}
@@ -28,8 +29,14 @@ use Rattle.rules.proofs.LowestLaws.{rules1_and_2_broken, rule7_number_broken, ru
 use Rattle.rules.proofs.CodeLaws.{rules4_and_5_broken}
 use Rattle.rules.proofs.AtLaws.{at_iv_rest, at_ip_2, at_ip_rest, at_in_2, at_in_3, at_in_5, at_in_6, at_in_rest, at_ia_2, at_ia_3, at_ia_4, at_ia_rest, at_other}
 
+-- day_until
+pub until_is : (day : Option ℕ) (until n : ℕ) (b : Bool) → b ≡ is_some day → n ≡ unwrap_or day 0 → ◌≡◌ {A = Day} (record { sound = b; number = n; until = until }) (day_until day until)
+until_is day until n b c d = rw (c, d)
+
+pub ruleset for_day_until = (rules, until_is)
+
 -- ii_day
-module _ (day : DayRead) (historical : Bool) (today : ℕ) (r : Day) where
+module _ (day : Option ℕ) (historical : Bool) (today : ℕ) (r : Day) where
   pub day_with_h : historical ≡ true → r ≡ day_until day any_end → r ≡ ii_day day historical today
   day_with_h h e = e ∙ rw h
 

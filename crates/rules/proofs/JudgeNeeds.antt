@@ -18,35 +18,33 @@ use Rattle.rules_definitions.specs.Seen.{Setting}
 use Rattle.rules_definitions.specs.Findings.{findings_of, area_after}
 use Rattle.rules_definitions.proofs.AreaLaws.{area_again}
 use Rattle.rules_walk.specs.declared.Built.{Built}
-use Rattle.rules_walk.specs.declared.Built.TheVariants.{Blocks, TooMany as NotBuilt}
-use Rattle.rules_walk.specs.Firsts.{index_of, can_build, built_in, can_sort_front, front_of, front_in}
+use Rattle.rules_walk.specs.Firsts.{index_of, can_build, built, built_in, can_sort_front, front_of, front_in}
 use Rattle.rules_walk.specs.Repeats.{repeats_in, note_all}
 use Rattle.rules_walk.proofs.IndexNeeds.{can_same, not_built, index_apart, index_built, index_front}
 use Rattle.rules.specs.declared.By.{By}
-use Rattle.rules.specs.declared.Walked.{Walked}
 use Rattle.rules.specs.declared.Judged.{Judged}
-use Rattle.rules.specs.declared.Judged.TheVariants.{Done, TooMany}
+use Rattle.std.proofs.Common.{Option, Some, None}
 use Rattle.rules.specs.Look.{setting_by}
 use Rattle.rules.specs.Under.{findings_under}
-use Rattle.rules.specs.Judged.{findings_by, judged_of, judged_area, WalkIs, AgainIs, Judging, Sorting}
+use Rattle.rules.specs.Judged.{findings_by, judged, judged_of, judged_area, WalkIs, AgainIs, Judging, Sorting}
 use Rattle.rules.proofs.UnderLaws.{under_noted, under_none, under_fewer}
 
 -- the index is in order, or not
-module _ (file : Text) (area : List ℕ) (n : ℕ) (r : Built) (e : r ≡ front_of file area n) where
-  front_none : r ≡ NotBuilt → can_sort_front area n ≡ false
+module _ (file : Text) (area : List ℕ) (n : ℕ) (r : Option Built) (e : r ≡ front_of file area n) where
+  front_none : r ≡ None → can_sort_front area n ≡ false
   unfolding front_of
   front_none z = go (can_sort_front area n) (sym e ∙ z)
     where
-      go : (t : Bool) → cond t (Blocks n (sorted_apart file (take n area))) NotBuilt ≡ NotBuilt → t ≡ false
+      go : (t : Bool) → cond t (Some (built n (sorted_apart file (take n area)))) None ≡ None → t ≡ false
       go true y = clash (cc)
       go false y = refl
 
-  front_done : (m : ℕ) (d : Bool) → r ≡ Blocks m d → (can_sort_front area n ≡ true) × ((m ≡ n) × (d ≡ sorted_apart file (take n area)))
+  front_done : (q : Built) → r ≡ Some q → (can_sort_front area n ≡ true) × (q.distinct ≡ sorted_apart file (take n area))
   unfolding front_of
-  front_done m d z = go (can_sort_front area n) (sym z ∙ e)
+  front_done q z = go (can_sort_front area n) (sym z ∙ e)
     where
-      go : (t : Bool) → Blocks m d ≡ cond t (Blocks n (sorted_apart file (take n area))) NotBuilt → (t ≡ true) × ((m ≡ n) × (d ≡ sorted_apart file (take n area)))
-      go true y = (refl, (cc, cc))
+      go : (t : Bool) → Some q ≡ cond t (Some (built n (sorted_apart file (take n area)))) None → (t ≡ true) × (q.distinct ≡ sorted_apart file (take n area))
+      go true y = (refl, let u : q ≡ built n (sorted_apart file (take n area)) = cc in ap (λ (x : Built). x.distinct) u)
       go false y = clash (cc)
 
 can_says : (area : List ℕ) (n : ℕ) → can_sort_front area n ≡ true → (n ≤ 96154) × (n ≤ length area)
@@ -58,8 +56,8 @@ module _ (file book : Text) (by : By) (ledger : Text) (room : List ℕ) (area : 
   abbrev S : Setting
   S = setting_by by book ledger
 
-  module _ (w : Walked) (after : Text) (new : List ℕ) (g : WalkIs S file [] area room w after new) (b : Built) (e : b ≡ front_of file new w.blocks) (index : List ℕ) (i : index ≡ front_in file new w.blocks) where
-    many : b ≡ NotBuilt → Judging file book by ledger room area TooMany index after
+  module _ (w : Judged) (after : Text) (new : List ℕ) (g : WalkIs S file [] area room w after new) (b : Option Built) (e : b ≡ front_of file new w.blocks) (index : List ℕ) (i : index ≡ front_in file new w.blocks) where
+    many : b ≡ None → Judging file book by ledger room area None index after
     unfolding judged_of judged_area front_in
     many z =
         let f : can_sort_front new w.blocks ≡ false = front_none file new w.blocks b e z in
@@ -70,18 +68,15 @@ module _ (file book : Text) (by : By) (ledger : Text) (room : List ℕ) (area : 
           area_is = g.found_is.area_is ∙ rw (c, le-leb (length file) 5000000 short);
         }
 
-    module _ (n : ℕ) (d : Bool) (z : b ≡ Blocks n d) where
+    module _ (q : Built) (z : b ≡ Some q) where
       can : can_sort_front new w.blocks ≡ true
-      can = (front_done file new w.blocks b e n d z).0
-
-      n_is : n ≡ w.blocks
-      n_is = (front_done file new w.blocks b e n d z).1.0
+      can = (front_done file new w.blocks b e q z).0
 
       few : (w.blocks ≤ 96154) × (w.blocks ≤ length new)
       few = can_says new w.blocks can
 
-      built : can_build file (length room) ≡ true
-      built = can_same file room short w.blocks g.blocks_are new g.firsts_are ∙ can
+      is_built : can_build file (length room) ≡ true
+      is_built = can_same file room short w.blocks g.blocks_are new g.firsts_are ∙ can
 
       index_is : index ≡ sorted_at file (take w.blocks new) ++ drop w.blocks new
       unfolding front_in
@@ -90,49 +85,49 @@ module _ (file book : Text) (by : By) (ledger : Text) (room : List ℕ) (area : 
       room_is : index ≡ built_in file room
       room_is = index_is ∙ index_built file room short w.blocks g.blocks_are new g.firsts_are can few.0 few.1
 
-      apart : d ≡ ascends (events_at file (index_of file))
-      apart = (front_done file new w.blocks b e n d z).1.1 ∙ index_apart file room short w.blocks g.blocks_are new g.firsts_are can few.0 few.1
+      apart : q.distinct ≡ ascends (events_at file (index_of file))
+      apart = (front_done file new w.blocks b e q z).1 ∙ index_apart file room short w.blocks g.blocks_are new g.firsts_are can few.0 few.1
 
       done : (findings : ℕ) (last : Text) → findings ≡ length (findings_of S file) → last ≡ area_after area (findings_of S file)
-          → Judging file book by ledger room area (Done n findings w.not_immunized) index last
+          → Judging file book by ledger room area (Some (judged w.blocks findings w.not_immunized)) index last
       unfolding judged_of judged_area findings_by
-      done findings last p q =
+      done findings last p y =
           record {
-            answer = rw (built, n_is, g.blocks_are, g.not_immunized_is, p);
+            answer = rw (is_built, g.blocks_are, g.not_immunized_is, p);
             room_is = room_is;
-            area_is = q ∙ rw built;
+            area_is = y ∙ rw is_built;
           }
 
-      once : d ≡ true → Judging file book by ledger room area (Done n w.findings w.not_immunized) index after
+      once : q.distinct ≡ true → Judging file book by ledger room area (Some w) index after
       once t =
           let u : findings_under S file [] ≡ findings_of S file = under_none S file (sym apart ∙ t) in
           done w.findings after (g.found_is.count_is_lem ∙ ap length u) (g.found_is.area_is ∙ ap (area_after area) u)
 
-      again : (findings : ℕ) (last : Text) → AgainIs S file (take n index) after findings last
-          → Judging file book by ledger room area (Done n findings w.not_immunized) index last
+      again : (findings : ℕ) (last : Text) → AgainIs S file (take w.blocks index) after findings last
+          → Judging file book by ledger room area (Some (judged w.blocks findings w.not_immunized)) index last
       again findings last a =
-          let f : take n index ≡ index_of file = rw (n_is, index_is) (index_front file room short w.blocks g.blocks_are new g.firsts_are can few.0 few.1) in
+          let f : take w.blocks index ≡ index_of file = rw index_is (index_front file room short w.blocks g.blocks_are new g.firsts_are can few.0 few.1) in
           let o = a.own_is f in
           done findings last o.0 (o.1 ∙ rw g.found_is.area_is (area_again area (findings_under S file []) (findings_of S file) (under_fewer S file)))
 
 -- judge_sorted
-module _ (file book : Text) (by : By) (ledger : Text) (short : length file ≤ 5000000) (w : Walked) (left : Text) (new : List ℕ) (b : Built) (e : b ≡ front_of file new w.blocks) (index : List ℕ)
+module _ (file book : Text) (by : By) (ledger : Text) (short : length file ≤ 5000000) (w : Judged) (left : Text) (new : List ℕ) (b : Option Built) (e : b ≡ front_of file new w.blocks) (index : List ℕ)
     (i : index ≡ front_in file new w.blocks) where
-  pub sorted_many : b ≡ NotBuilt → Sorting file book by ledger w new left TooMany index left
+  pub sorted_many : b ≡ None → Sorting file book by ledger w new left None index left
   sorted_many z = record { judging = λ room area g. many file book by ledger room area short w left new g b e index i z }
 
-  module _ (n : ℕ) (d : Bool) (z : b ≡ Blocks n d) where
-    pub sorted_once : d ≡ true → Sorting file book by ledger w new left (Done n w.findings w.not_immunized) index left
-    sorted_once t = record { judging = λ room area g. once file book by ledger room area short w left new g b e index i n d z t }
+  module _ (q : Built) (z : b ≡ Some q) where
+    pub sorted_once : q.distinct ≡ true → Sorting file book by ledger w new left (Some w) index left
+    sorted_once t = record { judging = λ room area g. once file book by ledger room area short w left new g b e index i q z t }
 
-    pub sorted_again : (findings : ℕ) (last : Text) → AgainIs (setting_by by book ledger) file (take n index) left findings last
-        → Sorting file book by ledger w new left (Done n findings w.not_immunized) index last
-    sorted_again findings last a = record { judging = λ room area g. again file book by ledger room area short w left new g b e index i n d z findings last a }
+    pub sorted_again : (findings : ℕ) (last : Text) → AgainIs (setting_by by book ledger) file (take w.blocks index) left findings last
+        → Sorting file book by ledger w new left (Some (judged w.blocks findings w.not_immunized)) index last
+    sorted_again findings last a = record { judging = λ room area g. again file book by ledger room area short w left new g b e index i q z findings last a }
 
 pub ruleset for_judge_sorted = (rules, sorted_many, sorted_once, sorted_again)
 
 -- judge_file
-pub file_judged : (file book : Text) (by : By) (ledger : Text) (w : Walked) (room new : List ℕ) (area left : Text) (r : Judged) (index : List ℕ) (after : Text)
+pub file_judged : (file book : Text) (by : By) (ledger : Text) (w : Judged) (room new : List ℕ) (area left : Text) (r : Option Judged) (index : List ℕ) (after : Text)
     → WalkIs (setting_by by book ledger) file [] area room w left new
     → Sorting file book by ledger w new left r index after → Judging file book by ledger room area r index after
 file_judged file book by ledger w room new area left r index after g s = s.judging room area g
@@ -148,27 +143,25 @@ front_part places n = let e : n - 0 ≡ n = omega arith in ap (λ (k : ℕ). tak
 
 pub ruleset for_front = (rules, front_all, front_part)
 
--- walk_noted
-pub noted_again : (s : Setting) (file : Text) (index : List ℕ) (clear table area : Text) (old : List ℕ) (r : Walked) (after : Text) (new : List ℕ) → clear ≡ replicate (length clear) 0
-    → length file ≤ 16 * length clear → table ≡ note_all (repeats_in file index) clear → WalkIs s file table area old r after new
+-- walk_noted: a table that was just made
+table_clear : (n : ℕ) → replicate {A = ℕ} n 0 ≡ replicate {A = ℕ} (length (replicate {A = ℕ} n 0)) 0
+table_clear n = ap (λ (k : ℕ). replicate {A = ℕ} k 0) (sym (length-replicate {A = ℕ} n 0))
+
+table_long : (file : Text) (n : ℕ) → length file ≤ 16 * n → length file ≤ 16 * length (replicate {A = ℕ} n 0)
+table_long file n h = omega (arith, length-replicate {A = ℕ} n 0)
+
+pub noted_again : (s : Setting) (file : Text) (index : List ℕ) (n : ℕ) (table area : Text) (old : List ℕ) (r : Judged) (after : Text) (new : List ℕ)
+    → length file ≤ 16 * n → table ≡ note_all (repeats_in file index) (replicate n 0) → WalkIs s file table area old r after new
     → AgainIs s file index area r.findings after
-noted_again s file index clear table area old r after new c h t w =
+noted_again s file index n table area old r after new h t w =
     record {
       own_is = λ e.
-          let u : findings_under s file table ≡ findings_of s file = ap (findings_under s file) t ∙ under_noted s file index clear c h e in
+          let u : findings_under s file table ≡ findings_of s file
+          = ap (findings_under s file) t ∙ under_noted s file index (replicate n 0) (table_clear n) (table_long file n h) e in
           (w.found_is.count_is_lem ∙ ap length u, w.found_is.area_is ∙ ap (area_after area) u);
     }
 
 pub ruleset for_walk_noted = (rules, noted_again)
-
--- walk_short, walk_long: a table that was just made
-pub table_clear : (n : ℕ) → replicate {A = ℕ} n 0 ≡ replicate {A = ℕ} (length (replicate {A = ℕ} n 0)) 0
-table_clear n = ap (λ (k : ℕ). replicate {A = ℕ} k 0) (sym (length-replicate {A = ℕ} n 0))
-
-pub table_long : (file : Text) (n : ℕ) → length file ≤ 16 * n → length file ≤ 16 * length (replicate {A = ℕ} n 0)
-table_long file n h = omega (arith, length-replicate {A = ℕ} n 0)
-
-pub ruleset for_walk_table = (rules, table_clear, table_long)
 
 -- walk_by
 pub by_front : (s : Setting) (file : Text) (places index : List ℕ) (n : ℕ) (area : Text) (r : ℕ) (after : Text) → index ≡ take n places → AgainIs s file index area r after
@@ -184,7 +177,7 @@ module _ (file book : Text) (by : By) (ledger : Text) (room : List ℕ) (area : 
     unfolding can_build
     too_long = rw (lt-leb (length file) 5000000 h)
 
-    pub long_none : TooMany ≡ judged_of file book by ledger (length room)
+    pub long_none : None ≡ judged_of file book by ledger (length room)
     unfolding judged_of
     long_none = rw too_long
 
@@ -196,7 +189,7 @@ module _ (file book : Text) (by : By) (ledger : Text) (room : List ℕ) (area : 
     unfolding judged_area
     long_area = rw (too_long, lt-leb (length file) 5000000 h)
 
-  module _ (r : Judged) (index : List ℕ) (after : Text) (j : Judging file book by ledger room area r index after) where
+  module _ (r : Option Judged) (index : List ℕ) (after : Text) (j : Judging file book by ledger room area r index after) where
     pub judge_answer : r ≡ judged_of file book by ledger (length room)
     judge_answer = j.answer
 

@@ -152,22 +152,6 @@ module _ (k f : ℕ) where
   unfolding next_field
   next_one n = rw (ne_eqb k 3 n)
 
-  pub next_ii : k ≡ 4 → f + 1 ≡ next_field k f
-  unfolding next_field
-  next_ii e = rw e
-
-  pub next_ie : k ≡ 5 → f + 1 ≡ next_field k f
-  unfolding next_field
-  next_ie e = rw e
-
-  pub next_in : k ≡ 6 → f + 1 ≡ next_field k f
-  unfolding next_field
-  next_in e = rw e
-
-  pub next_ia : k ≡ 7 → f + 1 ≡ next_field k f
-  unfolding next_field
-  next_ia e = rw e
-
   pub next_is : (next_field k f ≡ f + 1) ⊎ ((k ≡ 3) × ((f ≡ 3) × (next_field k f ≡ 25)))
   unfolding next_field
   next_is = go (eqb k 3) (eqb f 3) refl refl

@@ -18,10 +18,10 @@ use Rattle.rules_fields.specs.declared.Broken.{Broken}
 use Rattle.rules.specs.declared.By.{By}
 use Rattle.rules.specs.declared.Here.{Here}
 use Rattle.rules.specs.Inside.{kept, keep, listed}
-use Rattle.rules.specs.Fields.{Told, Bookless, line_most, Judges, JudgesLine, last_of, next_field}
+use Rattle.rules.specs.Fields.{Told, Bookless, line_most, Judges, JudgesFields, JudgesLine, last_of, next_field}
 use Rattle.rules.proofs.KeepLaws.{keep_append}
 use Rattle.rules.proofs.BlankLaws.{first_blank, last_blank, ip_blank, blank_run, blank_skip, fields_on}
-use Rattle.rules.proofs.LastNeeds.{in_line, in_marks, past_last, next_ii, next_ie, next_in, next_ia, next_is, next_later}
+use Rattle.rules.proofs.LastNeeds.{in_line, in_marks, past_last, next_one, next_is, next_later}
 
 -- the loops over the fields of a line
 module _ (file : Text) (marks : List ℕ) (h : Here) (book : Text) (by : By) (count : ℕ) (area₀ : Text) where
@@ -133,7 +133,41 @@ module _ (file : Text) (marks : List ℕ) (h : Here) (book : Text) (by : By) (co
                   u,
                 )
 
-pub ruleset for_judge_line = (rules, going_start, going_end, going_marked, going_fits, going_falls, going_on, next_ii, next_ie, next_in, next_ia)
+-- judge_fields: the same of any line, its fields judged by a function
+module _ (post : ℕ → Broken → Type 0) (h : Here) (last count : ℕ) (area₀ : Text) where
+  pub record Running (f c : ℕ) (area : Text) : Type 0 where
+    pub few : c + 6 ≤ count + 3 * f
+    pub size : length area ≡ length area₀
+    pub going : (file : Text) (marks : List ℕ) (book : Text) (by : By) → last ≡ last_of h.kind (marked_count marks)
+        → ((f : ℕ) (b : Broken) → f ≤ 28 → post f b → Judges file marks h book by f b) → Going file marks h book by count area₀ last f c area
+
+  pub run_start : count + line_most < 2 ^ 64 → Running 2 count area₀
+  run_start b =
+      record {
+        few = omega arith;
+        size = refl;
+        going = λ file marks book by e j. going_start file marks h book by count area₀ h.kind last (marked_count marks) refl e refl b;
+      }
+
+  module _ (f c : ℕ) (area : Text) (g : Running f c area) where
+    pub run_end : last < f → JudgesFields post h last count area₀ c area
+    run_end i = record { line_is = λ file marks book by e j. going_end file marks h book by count area₀ last f c area (g.going file marks book by e j) i }
+
+    module _ (i : f ≤ last) (m : last ≤ 25) where
+      pub run_fits : count + line_most < 2 ^ 64 → c + 3 < 2 ^ 64
+      run_fits b = omega (arith, b, g.few)
+
+      pub run_on : (h.kind ≡ 3 → ⊥) → (b : Broken) (d : ℕ) (y : Text) → post f b → kept d y ≡ keep (found h.n f (listed b)) (kept c area) → d ≤ c + 3 → length y ≡ length area
+          → Running (f + 1) d y
+      run_on n b d y p k l o =
+          record {
+            few = omega (arith, g.few, l);
+            size = o ∙ g.size;
+            going = λ file marks book by e j.
+                going_on file marks h book by count area₀ last f c area (g.going file marks book by e j) i (f + 1) (next_one h.kind f n) b d y (j f b (omega arith) p) k l o;
+          }
+
+pub ruleset for_judge_fields = (rules, run_start, run_end, run_fits, run_on)
 
 -- the same of any book
 module _ (file : Text) (marks : List ℕ) (h : Here) (by : By) (count : ℕ) (area₀ : Text) where
@@ -168,6 +202,9 @@ module _ (file : Text) (marks : List ℕ) (h : Here) (by : By) (count : ℕ) (ar
 pub ruleset for_judge_other_line = (rules, by_start, by_end, by_size, by_marked, by_fits, by_falls, by_on)
 
 -- judge_line
+pub line_most_field : (k n last : ℕ) → last ≡ last_of k n → last ≤ 25
+line_most_field k n last e = omega (arith, e, in_marks k n)
+
 pub line_any : (file : Text) (marks : List ℕ) (h : Here) (book : Text) (by : By) (count : ℕ) (area : Text) (r : ℕ) (after : Text)
     → ((book : Text) → JudgesLine file marks h book by count area r after) → JudgesLine file marks h book by count area r after
 line_any file marks h book by count area r after g = g book
@@ -175,4 +212,4 @@ line_any file marks h book by count area r after g = g book
 pub bookless : (k : ℕ) → (k ≡ 4 → ⊥) → (k ≡ 5 → ⊥) → (k ≡ 6 → ⊥) → (k ≡ 7 → ⊥) → Bookless k
 bookless k a b c d = record { no_ii_lem = a; no_ie = b; no_in = c; no_ia = d }
 
-pub ruleset for_judge_any = (rules, line_any, bookless)
+pub ruleset for_judge_line = (rules, line_most_field, line_any, bookless)

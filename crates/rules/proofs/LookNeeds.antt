@@ -8,12 +8,11 @@ use native.Mathlib.Omega.{arith}
 use borrow.Author.Rules.{rules}
 use borrow.Author.Tests.{eq-eqb, ne_eqb}
 use lib.ListN.{length, get_or, take, drop}
-use Rattle.house.specs.Text.{Text, same, number, front}
+use Rattle.std.specs.Prelude.{Option}
+use Rattle.house.specs.Text.{Text, same, front}
 use Rattle.house.specs.Key.{key_of}
 use Rattle.house.proofs.Small.{clash}
 use Rattle.dates.specs.declared.Date.{Date}
-use Rattle.dates.specs.declared.Dated.{Dated}
-use Rattle.dates.specs.declared.Dated.TheVariants.{Day as AnyDay, NoDate}
 use Rattle.dates.specs.Dates.{dated_of}
 use Rattle.dates.proofs.DateLaws.{dated_true, dated_number, dated_false}
 use Rattle.lines_fields.specs.declared.LineAt.{LineAt}
@@ -35,18 +34,18 @@ use Rattle.rules_walk.specs.Repeats.{is_noted}
 use Rattle.rules_walk.proofs.BlockNeeds.{block_four}
 use Rattle.rules.specs.declared.Open.{Open}
 use Rattle.rules.specs.declared.BlockAt.{BlockAt}
-use Rattle.rules.specs.declared.DayRead.{DayRead}
 use Rattle.rules_fields.specs.declared.Facts.{Facts}
 use Rattle.rules.specs.Walk.{part_of, rec_in, ReadIn, one_day, no_day, day_of, joins_open_by, block_by, facts_by, historical_by, vaccine_by, day_by, OwnIs, OwnEnd}
 use Rattle.rules.proofs.WalkLaws.{no_recs, kind_is, recs_next}
+use Rattle.std.proofs.Common.{Option, Some, None}
 
 -- day_of_text
-module _ (t : Text) (d : Dated) (e : d ≡ dated_of t) where
-  pub day_there : (n : Date) → d ≡ AnyDay n → one_day n.number ≡ day_of t
+module _ (t : Text) (d : Option Date) (e : d ≡ dated_of t) where
+  pub day_there : (n : Date) → d ≡ Some n → one_day n.number ≡ day_of t
   unfolding day_of
   day_there n h = rw (dated_true t n (sym e ∙ h), dated_number t n (sym e ∙ h))
 
-  pub day_none : d ≡ NoDate → no_day ≡ day_of t
+  pub day_none : d ≡ None → no_day ≡ day_of t
   unfolding day_of
   day_none h = rw (dated_false t (sym e ∙ h))
 
@@ -61,7 +60,7 @@ module _ (file : Text) (m : List ℕ) (r : ReadIn file m) where
       ∙ sym (text_is (line_of (drop (get_or m 0 0) file)).text f)
 
   -- day_in
-  pub day_in_is : (f : ℕ) (t : Text) (d : DayRead) → f ≤ 28 → t ≡ judged_in file m f → d ≡ day_of t → d ≡ day_of (text (rec_in file m) f)
+  pub day_in_is : (f : ℕ) (t : Text) (d : Option ℕ) → f ≤ 28 → t ≡ judged_in file m f → d ≡ day_of t → d ≡ day_of (text (rec_in file m) f)
   day_in_is f t d l e p = p ∙ ap day_of (e ∙ read_text f l)
 
   -- event_of
@@ -168,8 +167,8 @@ module _ (file : Text) (m : List ℕ) (k : ℕ) (was : Span) where
 
 pub ruleset for_vaccine_of = (rules, vaccine_own, vaccine_was)
 
-module _ (l : Rec) (k : ℕ) (ii inn : DayRead) where
-  pub day_ii : (r : DayRead) → k ≡ 4 → r ≡ day_of (text l 6) → r ≡ day_by l k ii inn
+module _ (l : Rec) (k : ℕ) (ii inn : Option ℕ) where
+  pub day_ii : (r : Option ℕ) → k ≡ 4 → r ≡ day_of (text l 6) → r ≡ day_by l k ii inn
   unfolding day_by
   day_ii r h e = e ∙ rw h
 
@@ -177,7 +176,7 @@ module _ (l : Rec) (k : ℕ) (ii inn : DayRead) where
   unfolding day_by
   day_ie h = rw h
 
-  pub day_in : (r : DayRead) → k ≡ 6 → r ≡ day_of (text l 5) → r ≡ day_by l k ii inn
+  pub day_in : (r : Option ℕ) → k ≡ 6 → r ≡ day_of (text l 5) → r ≡ day_by l k ii inn
   unfolding day_by
   day_in r h e = e ∙ rw h
 

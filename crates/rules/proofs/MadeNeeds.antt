@@ -1,7 +1,6 @@
 -- What each need of the functions that make a list in a room asks.
 -- Assumes nothing.
-use mathlib.Core.Path.{◌≡◌, sym, ap, ◌∙◌}
-use mathlib.Core.Bool.{true, false}
+use mathlib.Core.Path.{◌≡◌, refl, sym, ap, ◌∙◌}
 use mathlib.Core.List.{List, ◌++◌, append_assoc}
 use Prim.Native.Nat.{ℕ, ◌≤◌}
 use native.Mathlib.Omega.{arith}
@@ -10,6 +9,7 @@ use borrow.Author.Rules.{rules}
 use borrow.Rule.Slice.PartMut.{post_of, put_mid}
 use lib.ListN.{length, take, drop, length-append}
 use lib.Seq.{take_at, drop_at, length-take-le, take-append-le}
+use Rattle.std.specs.Prelude.{Option, Some, None, unwrap_or}
 use Rattle.house.specs.Text.{Text}
 use Rattle.house.specs.Over.{over}
 use Rattle.house.proofs.Small.{clash}
@@ -18,7 +18,6 @@ use Rattle.lines_fields.specs.declared.Span.{Span}
 use Rattle.lines_words.specs.Words.{count_and_word, key_at, in_order, apart}
 use Rattle.lines_words.proofs.OrderedLaws.{length_ordered, length_apart}
 use Rattle.rules_lists.specs.Entries.{counted_antigens, entries_in}
-use Rattle.rules.specs.declared.Made.{Made}
 use Rattle.rules.specs.Room.{list_of, apart_of, MadeIs, BehindIs}
 
 -- sort_front, keep_front_apart
@@ -32,7 +31,7 @@ pub ruleset for_front = (rules, front_size, front_put)
 
 -- list_in
 module _ (list room : List ℕ) where
-  pub none_made : MadeIs list room (record { n = 0; fits = false })
+  pub none_made : MadeIs list room None
   none_made = record { made_in = omega arith; made_is = λ z. clash (cc) }
 
 module _ (file : Text) (key : ℕ) (es old room after : List ℕ) (n : ℕ) (c : n ≡ length es) (g : room ≡ over es old) (h : n ≤ length room)
@@ -48,49 +47,52 @@ module _ (file : Text) (key : ℕ) (es old room after : List ℕ) (n : ℕ) (c :
   sorted_in : n ≤ length after
   sorted_in = omega (arith, ap length e, length-append (in_order (key_at key file) (take n room)) (drop n room), length_ordered (key_at key file) (take n room), length-take-le n room h)
 
-  sorted_made : MadeIs (in_order (key_at key file) es) after (record { n = n; fits = true })
+  sorted_made : MadeIs (in_order (key_at key file) es) after (Some n)
   sorted_made = record { made_in = sorted_in; made_is = λ z. sorted_at_lem }
 
 pub list_made : (file : Text) (what key : ℕ) (p : Span) (old room after : List ℕ) (n : ℕ) → n ≡ length (entries_in what file p.start p.end)
     → room ≡ over (entries_in what file p.start p.end) old → n ≤ length room → after ≡ in_order (key_at key file) (take n room) ++ drop n room
-    → MadeIs (list_of file what key p) after (record { n = n; fits = true })
+    → MadeIs (list_of file what key p) after (Some n)
 unfolding list_of
 list_made file what key p old room after n c g h e = sorted_made file key (entries_in what file p.start p.end) old room after n c g h e
 
 pub ruleset for_list_in = (rules, none_made, list_made)
 
 -- apart_in
-module _ (file : Text) (p : Span) (room after : List ℕ) (m : Made) (i : MadeIs (list_of file counted_antigens count_and_word p) room m) where
-  pub made_in : m.n ≤ length room
-  made_in = i.made_in
+module _ (file : Text) (p : Span) (room after : List ℕ) (r : Option ℕ) (i : MadeIs (list_of file counted_antigens count_and_word p) room r) (m : ℕ) (f : r ≡ Some m) where
+  some : MadeIs (list_of file counted_antigens count_and_word p) room (Some m)
+  some = rw f at i
 
-  module _ (f : m.fits ≡ true) (n : ℕ) (c : n ≡ length (apart (key_at count_and_word file) (take m.n room)))
-      (e : after ≡ over (apart (key_at count_and_word file) (take m.n room)) (take m.n room) ++ drop m.n room) where
-    fewer : length (apart (key_at count_and_word file) (take m.n room)) ≤ length (take m.n room)
-    fewer = length_apart (key_at count_and_word file) (take m.n room)
+  pub made_in : m ≤ length room
+  made_in = some.made_in
 
-    apart_at : after ≡ apart (key_at count_and_word file) (take m.n room) ++ (drop (length (apart (key_at count_and_word file) (take m.n room))) (take m.n room) ++ drop m.n room)
+  module _ (n : ℕ) (c : n ≡ length (apart (key_at count_and_word file) (take m room)))
+      (e : after ≡ over (apart (key_at count_and_word file) (take m room)) (take m room) ++ drop m room) where
+    fewer : length (apart (key_at count_and_word file) (take m room)) ≤ length (take m room)
+    fewer = length_apart (key_at count_and_word file) (take m room)
+
+    apart_at : after ≡ apart (key_at count_and_word file) (take m room) ++ (drop (length (apart (key_at count_and_word file) (take m room))) (take m room) ++ drop m room)
     apart_at =
         e
-        ∙ ap (λ (l : List ℕ). l ++ drop m.n room) (over_front (apart (key_at count_and_word file) (take m.n room)) (take m.n room) fewer)
-        ∙ append_assoc (apart (key_at count_and_word file) (take m.n room)) (drop (length (apart (key_at count_and_word file) (take m.n room))) (take m.n room)) (drop m.n room)
+        ∙ ap (λ (l : List ℕ). l ++ drop m room) (over_front (apart (key_at count_and_word file) (take m room)) (take m room) fewer)
+        ∙ append_assoc (apart (key_at count_and_word file) (take m room)) (drop (length (apart (key_at count_and_word file) (take m room))) (take m room)) (drop m room)
 
-    pub apart_made : MadeIs (apart_of file p) after (record { n = n; fits = true })
+    pub apart_made : MadeIs (apart_of file p) after (Some n)
     unfolding apart_of
     apart_made =
         record {
-          made_in = omega (arith, c, ap length apart_at, length-append (apart (key_at count_and_word file) (take m.n room)) (drop (length (apart (key_at count_and_word file) (take m.n room))) (take m.n room) ++ drop m.n room));
+          made_in = omega (arith, c, ap length apart_at, length-append (apart (key_at count_and_word file) (take m room)) (drop (length (apart (key_at count_and_word file) (take m room))) (take m room) ++ drop m room));
           made_is =
               λ z.
               ap (take n) apart_at
-              ∙ take_at (apart (key_at count_and_word file) (take m.n room)) (drop (length (apart (key_at count_and_word file) (take m.n room))) (take m.n room) ++ drop m.n room) n (sym c)
-              ∙ ap (apart (key_at count_and_word file)) (i.made_is f);
+              ∙ take_at (apart (key_at count_and_word file) (take m room)) (drop (length (apart (key_at count_and_word file) (take m room))) (take m room) ++ drop m room) n (sym c)
+              ∙ ap (apart (key_at count_and_word file)) (some.made_is refl);
         }
 
 pub ruleset for_apart_in = (rules, none_made, made_in, apart_made)
 
 -- list_behind, apart_behind
-module _ (list old new : List ℕ) (k j : ℕ) (m : Made) (h : k ≤ length old) (i : MadeIs list new m) where
+module _ (list old new : List ℕ) (k j : ℕ) (m : Option ℕ) (h : k ≤ length old) (i : MadeIs list new m) where
   pub behind_made : BehindIs list k old (put_mid k j old new) m
   behind_made =
       record {
@@ -98,9 +100,9 @@ module _ (list old new : List ℕ) (k j : ℕ) (m : Made) (h : k ≤ length old)
         before_kept = take_at (take k old) (new ++ post_of k j old) k (length-take-le k old h);
         behind_is =
             λ z.
-            rw (add-sub_cancel_left k m.n)
-            (ap (take m.n) (drop_at (take k old) (new ++ post_of k j old) k (length-take-le k old h))
-            ∙ take-append-le m.n new (post_of k j old) i.made_in
+            rw (add-sub_cancel_left k (unwrap_or m 0))
+            (ap (take (unwrap_or m 0)) (drop_at (take k old) (new ++ post_of k j old) k (length-take-le k old h))
+            ∙ take-append-le (unwrap_or m 0) new (post_of k j old) i.made_in
             ∙ i.made_is z);
       }
 

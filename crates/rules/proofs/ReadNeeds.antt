@@ -9,6 +9,7 @@ use native.Mathlib.Omega.{arith}
 use borrow.Author.Rules.{rules}
 use borrow.Author.Tests.{le-leb}
 use lib.ListN.{length, get_or, take, drop}
+use Rattle.std.specs.Prelude.{Option}
 use Rattle.house.specs.Text.{Text}
 use Rattle.lines_fields.specs.declared.LineAt.{LineAt}
 use Rattle.lines_fields.specs.declared.Span.{Span}
@@ -21,15 +22,12 @@ use Rattle.lines_fields.proofs.FieldLaws.{start_zero}
 use Rattle.lines.specs.Records.{Rec, record_of, rec_of}
 use Rattle.lines.specs.Inside.{whole}
 use Rattle.lines.proofs.PartLaws.{ended_inside, whole_step}
-use Rattle.rules_definitions.specs.Forms.{text}
 use Rattle.rules.specs.declared.State.{State}
 use Rattle.rules.specs.declared.Read.{Read}
 use Rattle.rules.specs.declared.BlockAt.{BlockAt}
 use Rattle.rules.specs.declared.Here.{Here}
-use Rattle.rules.specs.declared.DayRead.{DayRead}
 use Rattle.rules_fields.specs.declared.Facts.{Facts}
 use Rattle.rules.specs.Walk.{rec_in, ReadIn, ReadAs, read_of, line_rec, block_by, facts_by, historical_by, vaccine_by, day_by, OwnEnd, here_with, block_of, HereIs, Holds, LookAt}
-use Rattle.rules.proofs.WalkLaws.{kind_is}
 
 -- THE LINE THAT WAS READ
 
@@ -65,7 +63,7 @@ module _ (file : Text) (m : List ℕ) (r : Read) (a : ReadAs file m r) where
 
 -- here_of
 module _ (file : Text) (m : List ℕ) (r : Read) (st : State) (b : BlockAt) (fs : Facts) (own : ℕ) where
-  pub here_is : (x : Bool) (v : Span) (d : DayRead) → x ≡ historical_by (rec_in file m) r.kind st.known.historical → v ≡ vaccine_by file m r.kind st.known.vaccine → d ≡ day_by (rec_in file m) r.kind st.known.ii_day st.known.in_day
+  pub here_is : (x : Bool) (v : Span) (d : Option ℕ) → x ≡ historical_by (rec_in file m) r.kind st.known.historical → v ≡ vaccine_by file m r.kind st.known.vaccine → d ≡ day_by (rec_in file m) r.kind st.known.ii_day st.known.in_day
       → ◌≡◌ {A = Here} (record {
         kind = r.kind;
         historical = x;

@@ -10,6 +10,8 @@ use borrow.Author.Tests.{eq-eqb, ne_eqb, eqb-true, leb-true}
 use lib.Dec.{eqb, leb}
 use lib.ListN.{length, take, drop}
 use lib.Seq.{take-take}
+use Rattle.std.specs.Prelude.{Option, unwrap_or}
+use Rattle.std.specs.Option.{is_some}
 use Rattle.house.specs.Text.{Text}
 use Rattle.house.proofs.Small.{both, clash}
 use Rattle.lines_fields.specs.declared.Span.{Span}
@@ -21,7 +23,6 @@ use Rattle.rules_definitions.specs.Rules.{counts_sound}
 use Rattle.rules_lists.specs.Entries.{antigens, lots}
 use Rattle.rules.specs.declared.Here.{Here}
 use Rattle.rules.specs.declared.Lists.{Lists}
-use Rattle.rules.specs.declared.Made.{Made}
 use Rattle.rules.specs.Walk.{part_of, OwnIs}
 use Rattle.rules.specs.Room.{list_of, apart_of, MadeIs, BehindIs, with_lots, with_first, with_own, is_span, has_first, has_own, ListsAre, OwnHeld}
 
@@ -34,7 +35,7 @@ module _ (k : ℕ) (old room : List ℕ) (kept : take k room ≡ take k old) whe
   part_kept a b l = part_drop room a b ∙ ap (drop a) (front_kept b l) ∙ sym (part_drop old a b)
 
 -- with_lots
-lots_only : (file : Text) (room : List ℕ) (l : Lists) (m : Made) → MadeIs (list_of file lots 0 (span 0 (length file))) room m → ListsAre file room (with_lots l m.n m.fits)
+lots_only : (file : Text) (room : List ℕ) (l : Lists) (m : Option ℕ) → MadeIs (list_of file lots 0 (span 0 (length file))) room m → ListsAre file room (with_lots l (unwrap_or m 0) (is_some m))
 unfolding with_lots
 lots_only file room l m i =
     record {
@@ -48,9 +49,11 @@ lots_only file room l m i =
       own_in = λ z. clash (cc);
     }
 
-pub lots_there : (file : Text) (room : List ℕ) (l k : Lists) (m : Made) → MadeIs (list_of file lots 0 (span 0 (length file))) room m → k ≡ with_lots l m.n m.fits
-    → ListsAre file room k
-lots_there file room l k m i e = subst (ListsAre file room) (sym e) (lots_only file room l m i)
+pub lots_there : (file : Text) (room : List ℕ) (l k : Lists) (m : Option ℕ) (n : ℕ) (b : Bool) → MadeIs (list_of file lots 0 (span 0 (length file))) room m
+    → n ≡ unwrap_or m 0 → b ≡ is_some m → k ≡ with_lots l n b → ListsAre file room k
+lots_there file room l k m n b i c d e =
+    let f : k ≡ with_lots l (unwrap_or m 0) (is_some m) = rw (← c, ← d) e in
+    subst (ListsAre file room) (sym f) (lots_only file room l m i)
 
 pub ruleset for_with_lots = (rules, lots_there)
 
@@ -83,8 +86,8 @@ module _ (l : Lists) (first : Span) where
 pub ruleset for_has_first = (rules, spans_apart, spans_start, first_has, first_not)
 
 -- make_first, with_first
-module _ (file : Text) (old room : List ℕ) (l : Lists) (m : Made) (first : Span) (r : ListsAre file old l) (i : BehindIs (apart_of file first) l.lots old room m) where
-  first_only_lem : (sound : Bool) → sound ≡ counts_sound (recs (part_of file first)) → ListsAre file room (with_first l first (l.lots + m.n) m.fits sound)
+module _ (file : Text) (old room : List ℕ) (l : Lists) (m : Option ℕ) (first : Span) (r : ListsAre file old l) (i : BehindIs (apart_of file first) l.lots old room m) where
+  first_only_lem : (sound : Bool) → sound ≡ counts_sound (recs (part_of file first)) → ListsAre file room (with_first l first (l.lots + unwrap_or m 0) (is_some m) sound)
   unfolding with_first
   first_only_lem sound s =
       record {
@@ -98,9 +101,11 @@ module _ (file : Text) (old room : List ℕ) (l : Lists) (m : Made) (first : Spa
         own_in = λ z. clash (cc);
       }
 
-  pub first_there : (t : Text) (k : Lists) (sound : Bool) → t ≡ part file first.start first.end → sound ≡ counts_sound (recs t) → k ≡ with_first l first (l.lots + m.n) m.fits sound
-      → ListsAre file room k
-  first_there t k sound c s e = subst (ListsAre file room) (sym e) (first_only_lem sound (s ∙ ap (λ (u : Text). counts_sound (recs u)) c))
+  pub first_there : (t : Text) (k : Lists) (n : ℕ) (b sound : Bool) → t ≡ part file first.start first.end → sound ≡ counts_sound (recs t) → n ≡ unwrap_or m 0 → b ≡ is_some m
+      → k ≡ with_first l first (l.lots + n) b sound → ListsAre file room k
+  first_there t k n b sound c s d f e =
+      let g : k ≡ with_first l first (l.lots + unwrap_or m 0) (is_some m) sound = rw (← d, ← f) e in
+      subst (ListsAre file room) (sym g) (first_only_lem sound (s ∙ ap (λ (u : Text). counts_sound (recs u)) c))
 
 pub first_of : (l k : Lists) (first : Span) (n : ℕ) (made sound : Bool) → k ≡ with_first l first n made sound → k.first ≡ first
 unfolding with_first
@@ -111,8 +116,8 @@ unfolding has_first
 first_held l first r e t = spans_one l.first first (both l.first_made (is_span l.first first) (sym e ∙ t)).1
 
 -- there is room for as many entries more as were put there
-pub behind_room : (list : List ℕ) (k : ℕ) (old room : List ℕ) (m : Made) → BehindIs list k old room m → k + m.n ≤ length room
-behind_room list k old room m i = i.behind_in
+pub behind_room : (list : List ℕ) (k : ℕ) (old room : List ℕ) (m : Option ℕ) (n : ℕ) → BehindIs list k old room m → n ≡ unwrap_or m 0 → k + n ≤ length room
+behind_room list k old room m n i e = omega (arith, i.behind_in, e)
 
 pub lots_room : (file : Text) (room : List ℕ) (l : Lists) → ListsAre file room l → l.lots ≤ length room
 lots_room file room l r = omega (arith, r.lots_in_lem, r.firsts_in_lem, r.owns_in)
@@ -150,8 +155,8 @@ pub ruleset for_has_own = (rules, own_none, own_other, own_same)
 
 -- make_own, with_own
 module _ (file : Text) (old room : List ℕ) (l : Lists) (own : Span) where
-  module _ (m : Made) (r : ListsAre file old l) (i : BehindIs (list_of file antigens 0 own) l.firsts old room m) (inside : own.end ≤ length file) where
-    own_only : ListsAre file room (with_own l own (l.firsts + m.n) m.fits)
+  module _ (m : Option ℕ) (r : ListsAre file old l) (i : BehindIs (list_of file antigens 0 own) l.firsts old room m) (inside : own.end ≤ length file) where
+    own_only : ListsAre file room (with_own l own (l.firsts + unwrap_or m 0) (is_some m))
     unfolding with_own
     own_only =
         record {
@@ -165,8 +170,10 @@ module _ (file : Text) (old room : List ℕ) (l : Lists) (own : Span) where
           own_in = λ z. inside;
         }
 
-    pub own_there : (k : Lists) → k ≡ with_own l own (l.firsts + m.n) m.fits → ListsAre file room k
-    own_there k e = subst (ListsAre file room) (sym e) own_only
+    pub own_there : (k : Lists) (n : ℕ) (b : Bool) → n ≡ unwrap_or m 0 → b ≡ is_some m → k ≡ with_own l own (l.firsts + n) b → ListsAre file room k
+    own_there k n b c d e =
+        let f : k ≡ with_own l own (l.firsts + unwrap_or m 0) (is_some m) = rw (← c, ← d) e in
+        subst (ListsAre file room) (sym f) own_only
 
 pub own_of : (l k : Lists) (own : Span) (n : ℕ) (made : Bool) → k ≡ with_own l own n made → k.own ≡ own
 unfolding with_own

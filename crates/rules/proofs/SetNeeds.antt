@@ -7,6 +7,7 @@ use Prim.Native.Nat.{ℕ, ◌+◌, ◌≤◌}
 use native.Mathlib.Omega.{arith}
 use borrow.Author.Rules.{rules}
 use lib.ListN.{length}
+use Rattle.std.specs.Prelude.{Option, Some}
 use Rattle.house.specs.Text.{Text, any, same}
 use Rattle.house.proofs.Small.{clash}
 use Rattle.lines_fields.specs.declared.Span.{Span}
@@ -22,7 +23,6 @@ use Rattle.rules_lists.proofs.EntryLaws.{counts_among}
 use Rattle.rules_lists.proofs.StepNeeds.{step_same}
 use Rattle.rules.specs.declared.Here.{Here}
 use Rattle.rules.specs.declared.Lists.{Lists}
-use Rattle.rules.specs.declared.Made.{Made}
 use Rattle.rules.specs.Walk.{part_of}
 use Rattle.rules.specs.Questions.{antigens_differ, SetsAsked, SetsSound, AskAt}
 use Rattle.rules.specs.Room.{list_of, apart_of, lists_apart, BehindIs, with_own, ListsAre}
@@ -97,7 +97,7 @@ module _ (file : Text) (n : length file ≤ place_bound) (p q : Span) (b : p.end
   unfolding lists_apart antigens_differ sets_differ
   lists_differ = rw (own_among, first_among, s, r)
 
-module _ (file : Text) (m : List ℕ) (h : Here) (a : AskAt file m h) (old room : List ℕ) (l : Lists) (r : ListsAre file old l) (made : Made)
+module _ (file : Text) (m : List ℕ) (h : Here) (a : AskAt file m h) (old room : List ℕ) (l : Lists) (r : ListsAre file old l) (made : Option ℕ)
     (i : BehindIs (list_of file counted_antigens count_and_word (span h.next h.own)) l.firsts old room made) where
   own_gone : ListsAre file room (with_own l (span h.next h.own) l.firsts false)
   unfolding with_own
@@ -119,11 +119,11 @@ module _ (file : Text) (m : List ℕ) (h : Here) (a : AskAt file m h) (old room 
   pub first_slice : l.lots ≤ l.firsts
   first_slice = r.lots_in_lem
 
-  module _ (f : l.first_made ≡ true) (e : l.first ≡ h.first) (s : SetsSound file h) (z : made.fits ≡ true) where
-    pub sets_listed : (x : Bool) → x ≡ lists_apart file (part room l.lots l.firsts) (part room l.firsts (l.firsts + made.n)) → SetsAsked file h x
+  module _ (f : l.first_made ≡ true) (e : l.first ≡ h.first) (s : SetsSound file h) (n : ℕ) (z : made ≡ Some n) where
+    pub sets_listed : (x : Bool) → x ≡ lists_apart file (part room l.lots l.firsts) (part room l.firsts (l.firsts + n)) → SetsAsked file h x
     sets_listed x c =
         c
-        ∙ ap (λ (os : List ℕ). lists_apart file (part room l.lots l.firsts) os) (i.behind_is z)
+        ∙ ap (λ (os : List ℕ). lists_apart file (part room l.lots l.firsts) os) ((rw z at i).behind_is refl)
         ∙ ap (λ (fs : List ℕ). lists_apart file fs (list_of file counted_antigens count_and_word (span h.next h.own)))
         (part_kept l.firsts old room i.before_kept l.lots l.firsts (omega arith) ∙ r.first_are f ∙ ap (apart_of file) e)
         ∙ lists_differ file (omega (arith, a.short)) (span h.next h.own) h.first a.own_in a.first_in s.own_sound s.first_sound_lem

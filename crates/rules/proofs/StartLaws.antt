@@ -5,6 +5,7 @@ use mathlib.Core.Bool.{false}
 use mathlib.Core.List.{List, []}
 use Prim.Native.Nat.{ℕ, zero, suc, ◌≤◌}
 use native.Mathlib.Omega.{arith}
+use Rattle.std.specs.Prelude.{Option, unwrap_or}
 use Rattle.house.specs.Text.{Text, same, order_of}
 use Rattle.house.proofs.Small.{clash}
 use Rattle.dates.specs.Dates.{is_date}
@@ -16,7 +17,6 @@ use Rattle.lines.specs.Records.{Rec, rec_of, recs}
 use Rattle.lines.specs.Inside.{whole}
 use Rattle.rules_definitions.specs.Forms.{field_in, text, is_historical}
 use Rattle.rules_definitions.specs.Contexts.{no_rec}
-use Rattle.rules.specs.declared.DayRead.{DayRead}
 use Rattle.rules.specs.Walk.{lines_before, LinesAre, day_of, OpenIs, Holds, no_day, no_open, start_state}
 use Rattle.rules.proofs.WalkLaws.{no_recs}
 
@@ -51,7 +51,7 @@ holds_start file =
       place_is = refl;
       known_is = record {
         uli_is = no_text 3;
-        born_is = sym (ap (λ (t : Text). (day_of t).number) (no_text 25) ∙ ap (λ (d : DayRead). d.number) no_day_lem);
+        born_is = sym (ap (λ (t : Text). (unwrap_or (day_of t) 0)) (no_text 25) ∙ ap (λ (d : Option ℕ). unwrap_or d 0) no_day_lem);
         historical_is = sym (ap is_historical (no_text 5) ∙ no_history);
         vaccine_is = no_text 8;
         ii_day_is = sym (ap day_of (no_text 6) ∙ no_day_lem);

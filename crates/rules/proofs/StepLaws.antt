@@ -8,6 +8,7 @@ use native.Mathlib.Omega.{arith}
 use borrow.Author.Tests.{eqb-true}
 use lib.Dec.{eqb}
 use lib.ListN.{length, take}
+use Rattle.std.specs.Prelude.{unwrap_or}
 use Rattle.house.specs.Text.{Text, those, how_many, front, is_empty, within}
 use Rattle.house.proofs.Small.{both, clash}
 use Rattle.lines_fields.specs.declared.Span.{Span}
@@ -95,11 +96,11 @@ module _ (file : Text) (at : ℕ) (st : State) (h : Holds file at st) (less : at
       go true = its_field file at less 3 (omega arith)
       go false = h.known_is.uli_is
 
-  born_step : next_born (rec_in file M) k st.known.born ≡ (day_of (text (nearest IP (lines_before file y.next)) 25)).number
+  born_step : next_born (rec_in file M) k st.known.born ≡ unwrap_or (day_of (text (nearest IP (lines_before file y.next)) 25)) 0
   unfolding next_born
   born_step = rw (step, kind_of_lem IP, its_rec file at less) (go (eqb k IP))
     where
-      go : (t : Bool) → cond t (day_of (text L 25)).number st.known.born ≡ (day_of (text (cond t L (nearest IP before)) 25)).number
+      go : (t : Bool) → cond t (unwrap_or (day_of (text L 25)) 0) st.known.born ≡ unwrap_or (day_of (text (cond t L (nearest IP before)) 25)) 0
       go true = refl
       go false = h.known_is.born_is
 

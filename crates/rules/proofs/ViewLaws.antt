@@ -8,6 +8,8 @@ use native.Mathlib.Omega.{arith}
 use borrow.Author.Tests.{eqb-true, eqb-false, leb-true}
 use lib.Dec.{eqb, leb}
 use lib.ListN.{length, drop}
+use Rattle.std.specs.Prelude.{Option, unwrap_or}
+use Rattle.std.specs.Option.{is_some}
 use Rattle.house.specs.Text.{Text, number, within, any, those, front}
 use Rattle.house.proofs.Small.{both, clash}
 use Rattle.dates.specs.Dates.{is_date}
@@ -30,7 +32,6 @@ use Rattle.rules_walk.proofs.StartLaws.{start_upto}
 use Rattle.rules.specs.declared.State.{State}
 use Rattle.rules.specs.declared.Here.{Here}
 use Rattle.rules.specs.declared.By.{By}
-use Rattle.rules.specs.declared.DayRead.{DayRead}
 use Rattle.rules.specs.Under.{with_repeated, repeated_by, seen_by}
 use Rattle.rules_plain.specs.PlainFields.{born_of}
 use Rattle.rules.specs.Fields.{DayIs, Looks, Blocked, Told}
@@ -40,35 +41,35 @@ use Rattle.rules.proofs.AnswerLaws.{rule12_lines, rule13_lines, rule14_lines}
 use Rattle.rules.proofs.SeenLaws as seen
 
 -- the day of birth
-born_is : (ip : Rec) → born_of ip ≡ (day_of (text ip 25)).number
+born_is : (ip : Rec) → born_of ip ≡ unwrap_or (day_of (text ip 25)) 0
 unfolding day_of born_of
 born_is ip = rw (ip_25 ip) (go (is_date (text ip 25)))
   where
-    go : (t : Bool) → cond t (number (text ip 25)) 0 ≡ (cond {A = DayRead} t (one_day (number (text ip 25))) no_day).number
+    go : (t : Bool) → cond t (number (text ip 25)) 0 ≡ unwrap_or (cond {A = Option ℕ} t (one_day (number (text ip 25))) no_day) 0
     go true = refl
     go false = refl
 
 -- a date is sound, and its number is read
-day_sound : (t : Text) → (day_of t).sound ≡ is_date t
+day_sound : (t : Text) → is_some (day_of t) ≡ is_date t
 unfolding day_of
 day_sound t = go (is_date t)
   where
-    go : (b : Bool) → (cond {A = DayRead} b (one_day (number t)) no_day).sound ≡ b
+    go : (b : Bool) → is_some (cond {A = Option ℕ} b (one_day (number t)) no_day) ≡ b
     go true = refl
     go false = refl
 
-day_number : (t : Text) → (day_of t).sound ≡ true → number t ≡ (day_of t).number
+day_number : (t : Text) → is_some (day_of t) ≡ true → number t ≡ unwrap_or (day_of t) 0
 unfolding day_of
 day_number t = go (is_date t)
   where
-    go : (b : Bool) → (cond {A = DayRead} b (one_day (number t)) no_day).sound ≡ true
-        → number t ≡ (cond {A = DayRead} b (one_day (number t)) no_day).number
+    go : (b : Bool) → is_some (cond {A = Option ℕ} b (one_day (number t)) no_day) ≡ true
+        → number t ≡ unwrap_or (cond {A = Option ℕ} b (one_day (number t)) no_day) 0
     go true e = refl
     go false e = clash (cc)
 
 -- the day of the record that a line of kind k belongs to
 module _ (v : Seen) (k j f : ℕ) (e : v.line.kind ≡ k) (a : head_kind k ≡ j) (b : day_field j ≡ f) (c : is_sound j v.head f ≡ is_date (text v.head f)) where
-  dated : DayIs (day_of (text v.head f)).sound (day_of (text v.head f)).number v
+  dated : DayIs (is_some (day_of (text v.head f))) (unwrap_or (day_of (text v.head f)) 0) v
   unfolding day_is_sound record_day
   dated =
       record {
@@ -142,7 +143,7 @@ module _ (file : Text) (at : ℕ) (st : State) (h : Holds file at st) (less : at
       go false true c p q r lo hi = h.known_is.vaccine_is
       go false false c p q r lo hi = absurd (omega (arith, eqb-false k 4 p, eqb-false k 5 q))
 
-  day_told : within II IA k ≡ true → DayIs y.day.sound y.day.number view
+  day_told : within II IA k ≡ true → DayIs (is_some y.day) (unwrap_or y.day 0) view
   unfolding with_repeated seen_at head_kind day_field day_by
   day_told w =
       let p = both (leb 4 k) (leb k 7) w in
@@ -151,10 +152,10 @@ module _ (file : Text) (at : ℕ) (st : State) (h : Holds file at st) (less : at
       is : y.day ≡ day_by L k st.known.ii_day st.known.in_day
       is = seen.day_is file at st h less table ledger live y i
 
-      by : (d : Text) (f : ℕ) → y.day ≡ day_of (text (head_of L before) f) → DayIs (day_of (text (head_of L before) f)).sound (day_of (text (head_of L before) f)).number view → DayIs y.day.sound y.day.number view
-      by d f e x = subst (λ (z : DayRead). DayIs z.sound z.number view) (sym e) x
+      by : (d : Text) (f : ℕ) → y.day ≡ day_of (text (head_of L before) f) → DayIs (is_some (day_of (text (head_of L before) f))) (unwrap_or (day_of (text (head_of L before) f)) 0) view → DayIs (is_some y.day) (unwrap_or y.day 0) view
+      by d f e x = subst (λ (z : Option ℕ). DayIs (is_some z) (unwrap_or z 0) view) (sym e) x
 
-      go : (a b c : Bool) → eqb k II ≡ a → eqb k IE ≡ b → eqb k IN ≡ c → 4 ≤ k → k ≤ 7 → DayIs y.day.sound y.day.number view
+      go : (a b c : Bool) → eqb k II ≡ a → eqb k IE ≡ b → eqb k IN ≡ c → 4 ≤ k → k ≤ 7 → DayIs (is_some y.day) (unwrap_or y.day 0) view
       go true b c p q r lo hi =
           let m : k ≡ 4 = eqb-true k 4 p in
           by (text L 6) 6 (is ∙ rw m (ap (λ (l : Rec). day_of (text l 6)) (head_ii m))) (dated view k 4 6 kind_is (rw m) refl (ii_6 (head_of L before)))

@@ -7,6 +7,7 @@ use Prim.Native.Nat.{ℕ, ◌+◌, ◌≤◌, ◌<◌}
 use native.Mathlib.Omega.{arith}
 use borrow.Author.Rules.{rules}
 use borrow.Author.Tests.{eq-eqb, ne_eqb, le-leb, lt-leb}
+use Rattle.std.specs.Prelude.{Option, unwrap_or}
 use Rattle.house.specs.Text.{Text}
 use Rattle.lines_fields.specs.declared.Span.{Span}
 use Rattle.lines_fields.specs.Marks.{span, judged_span}
@@ -17,7 +18,6 @@ use Rattle.rules.specs.declared.Known.{Known}
 use Rattle.rules.specs.declared.Block.{Block}
 use Rattle.rules.specs.declared.State.{State}
 use Rattle.rules.specs.declared.Here.{Here}
-use Rattle.rules.specs.declared.DayRead.{DayRead}
 use Rattle.rules.specs.Walk.{rec_in, day_of, no_open, no_day, start_state}
 use Rattle.rules.specs.Advance.{next_place, next_uli, next_born, next_day, next_since, open_in, next_open, next_run, next_many, next_first, next_not_immunized, next_known, next_block, advanced}
 
@@ -45,19 +45,19 @@ module _ (k : ℕ) where
   unfolding next_uli
   uli_same file m was h = simp (ne_eqb _ _ h)
 
-  pub born_here : (l : Rec) (was : ℕ) (d : DayRead) → k ≡ IP → d ≡ day_of (text l 25) → d.number ≡ next_born l k was
+  pub born_here : (l : Rec) (was : ℕ) (d : Option ℕ) (n : ℕ) → k ≡ IP → d ≡ day_of (text l 25) → n ≡ unwrap_or d 0 → n ≡ next_born l k was
   unfolding next_born
-  born_here l was d h e = ap (λ (x : DayRead). x.number) e ∙ simp (eq-eqb _ _ h)
+  born_here l was d n h e c = c ∙ ap (λ (x : Option ℕ). unwrap_or x 0) e ∙ simp (eq-eqb _ _ h)
 
   pub born_same : (l : Rec) (was : ℕ) → (k ≡ IP → ⊥) → was ≡ next_born l k was
   unfolding next_born
   born_same l was h = simp (ne_eqb _ _ h)
 
-  pub day_here : (j : ℕ) (was day : DayRead) → k ≡ j → day ≡ next_day j was k day
+  pub day_here : (j : ℕ) (was day : Option ℕ) → k ≡ j → day ≡ next_day j was k day
   unfolding next_day
   day_here j was day h = simp (eq-eqb _ _ h)
 
-  pub day_same : (j : ℕ) (was day : DayRead) → (k ≡ j → ⊥) → was ≡ next_day j was k day
+  pub day_same : (j : ℕ) (was day : Option ℕ) → (k ≡ j → ⊥) → was ≡ next_day j was k day
   unfolding next_day
   day_same j was day h = simp (ne_eqb _ _ h)
 
@@ -164,7 +164,7 @@ open_is file m a b c d p q r s = rw (p, q, r, s)
 pub ruleset for_open_of = (rules, open_is)
 
 -- next_known
-pub known_is : (file : Text) (m : List ℕ) (was : Known) (h : Here) (u : Span) (b : ℕ) (x y : DayRead) → u ≡ next_uli file m h.kind was.uli
+pub known_is : (file : Text) (m : List ℕ) (was : Known) (h : Here) (u : Span) (b : ℕ) (x y : Option ℕ) → u ≡ next_uli file m h.kind was.uli
     → b ≡ next_born (rec_in file m) h.kind was.born → x ≡ next_day 4 was.ii_day h.kind h.day → y ≡ next_day 6 was.in_day h.kind h.day
     → ◌≡◌ {A = Known} (record { uli = u; born = b; historical = h.historical; vaccine = h.vaccine; ii_day = x; in_day = y }) (next_known file m was h)
 unfolding next_known

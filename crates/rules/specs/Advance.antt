@@ -1,13 +1,12 @@
 -- Working definitions: the state of the walk after a line. No public contract rests on this page.
 -- Assumes nothing.
-use Rattle.std.specs.Prelude.{ℕ, ◌+◌, Bool, cond, List, eqb}
+use Rattle.std.specs.Prelude.{ℕ, ◌+◌, Bool, cond, List, eqb, Option, unwrap_or}
 use Rattle.house.specs.Text.{Text, within}
 use Rattle.lines_fields.specs.declared.Span.{Span}
 use Rattle.lines_fields.specs.Marks.{span, judged_span}
 use Rattle.lines.specs.Records.{Rec, IP, II, IE, IN, IA}
 use Rattle.rules_definitions.specs.Forms.{text}
 use Rattle.rules.specs.declared.Open.{Open}
-use Rattle.rules.specs.declared.DayRead.{DayRead}
 use Rattle.rules.specs.declared.Known.{Known}
 use Rattle.rules.specs.declared.Block.{Block}
 use Rattle.rules.specs.declared.State.{State}
@@ -23,10 +22,10 @@ unfoldable pub next_uli : Text → List ℕ → ℕ → Span → Span
 next_uli file m k was = cond (eqb k IP) (judged_span file m 3) was
 
 unfoldable pub next_born : Rec → ℕ → ℕ → ℕ
-next_born l k was = cond (eqb k IP) (day_of (text l 25)).number was
+next_born l k was = cond (eqb k IP) (unwrap_or (day_of (text l 25)) 0) was
 
 -- the day of the nearest line of kind j
-unfoldable pub next_day : ℕ → DayRead → ℕ → DayRead → DayRead
+unfoldable pub next_day : ℕ → Option ℕ → ℕ → Option ℕ → Option ℕ
 next_day j was k day = cond (eqb k j) day was
 
 unfoldable pub next_since : ℕ → ℕ → ℕ → ℕ

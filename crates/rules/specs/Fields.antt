@@ -1,9 +1,10 @@
 -- Working definitions: what a function that judges a field is told, and what it says. No public contract rests on this page.
 -- Assumes nothing.
-use Rattle.std.specs.Prelude.{ℕ, ◌+◌, ◌≤◌, ◌≡◌, Bool, true, cond, ◌&&◌, List, length, drop, eqb, ltb}
+use Rattle.std.specs.Prelude.{ℕ, ◌+◌, ◌≤◌, ◌≡◌, Bool, true, cond, ◌&&◌, List, length, drop, eqb, ltb, Option, unwrap_or}
+use Rattle.std.specs.Option.{is_some}
 use Rattle.house.specs.Text.{Text, any, those, within}
 use Rattle.lines_fields.specs.Lines.{line_of}
-use Rattle.lines_fields.specs.Marks.{marks_at, judged_in}
+use Rattle.lines_fields.specs.Marks.{marks_at, marked_count, judged_in}
 use Rattle.lines_fields.specs.Inside.{part}
 use Rattle.lines.specs.Records.{IV, IH, IP, II, IE, IN, IA, IF, rec_of}
 use Rattle.rules_definitions.specs.Forms.{text, is_sound, is_historical}
@@ -18,7 +19,6 @@ use Rattle.rules_fields.specs.declared.Day.{Day}
 use Rattle.book.specs.LookUp.{known_by, in_force_by, ended_by}
 use Rattle.rules_fields.specs.Fields.{any_end}
 use Rattle.rules.specs.declared.By.{By}
-use Rattle.rules.specs.declared.DayRead.{DayRead}
 use Rattle.rules.specs.declared.Here.{Here}
 use Rattle.rules.specs.Inside.{kept, keep, listed}
 
@@ -38,11 +38,11 @@ pub record DayIs (sound : Bool) (number : ℕ) (v : Seen) : Type 0 where
   pub number_is : sound ≡ true → record_day v ≡ number
 
 -- the day of a record, whose codes are not to have ended before another
-abbrev pub day_until : DayRead → ℕ → Day
-day_until day until = record { sound = day.sound; number = day.number; until = until }
+abbrev pub day_until : Option ℕ → ℕ → Day
+day_until day until = record { sound = is_some day; number = unwrap_or day 0; until = until }
 
 -- the day of an II, by whether II 5 is H
-abbrev pub ii_day : DayRead → Bool → ℕ → Day
+abbrev pub ii_day : Option ℕ → Bool → ℕ → Day
 ii_day day historical today = day_until day (cond historical any_end today)
 
 -- the record's day, and the day that its codes are not to have ended before
@@ -75,7 +75,7 @@ pub record Told (file : Text) (marks : List ℕ) (h : Here) (book : Text) (by : 
   pub place_is : v.place ≡ h.place
   pub uli_is : text v.ip 3 ≡ part file h.uli.start h.uli.end
   pub born_is : born_of v.ip ≡ h.born
-  pub day_is : within II IA v.line.kind ≡ true → DayIs h.day.sound h.day.number v
+  pub day_is : within II IA v.line.kind ≡ true → DayIs (is_some h.day) (unwrap_or h.day 0) v
   pub historical_is : within II IE v.line.kind ≡ true → is_historical (text v.head 5) ≡ h.historical
   pub vaccine_is : within II IE v.line.kind ≡ true → text v.head 8 ≡ part file h.vaccine.start h.vaccine.end
   pub again_is : v.line.kind ≡ IE → is_sound IE v.line 4 && any (same_antigen v.line) v.antigens ≡ h.again
@@ -129,3 +129,8 @@ last_of k n = cond (ltb n (last_field k)) n (last_field k)
 -- the field that is judged after field f: of an IP none between 3 and 25
 unfoldable pub next_field : ℕ → ℕ → ℕ
 next_field k f = cond (eqb k IP && eqb f 3) 25 (f + 1)
+
+-- the findings of the fields of a line up to the last that is judged, each by a function, are put to the others
+pub record JudgesFields (post : ℕ → Broken → Type 0) (h : Here) (last count : ℕ) (area : Text) (r : ℕ) (after : Text) : Type 0 where
+  pub line_is : (file : Text) (marks : List ℕ) (book : Text) (by : By) → last ≡ last_of h.kind (marked_count marks)
+      → ((f : ℕ) (b : Broken) → f ≤ 28 → post f b → Judges file marks h book by f b) → JudgesLine file marks h book by count area r after

@@ -1,6 +1,7 @@
 -- Working definitions: the room in which long lists stand in order. No public contract rests on this page.
 -- Assumes nothing.
-use Rattle.std.specs.Prelude.{ℕ, ◌+◌, ◌≤◌, ◌≡◌, Bool, true, false, not, ◌&&◌, List, eqb, leb, length, take}
+use Rattle.std.specs.Prelude.{ℕ, ◌+◌, ◌≤◌, ◌≡◌, Bool, true, false, not, ◌&&◌, List, Option, unwrap_or, eqb, leb, length, take}
+use Rattle.std.specs.Option.{is_some}
 use Rattle.house.specs.Text.{Text}
 use Rattle.lines_fields.specs.declared.Span.{Span}
 use Rattle.lines_fields.specs.Marks.{span}
@@ -11,7 +12,6 @@ use Rattle.rules_definitions.specs.Rules.{counts_sound}
 use Rattle.rules_lists.specs.Entries.{antigens, counted_antigens, lots, entries_in}
 use Rattle.rules.specs.declared.Here.{Here}
 use Rattle.rules.specs.declared.Lists.{Lists}
-use Rattle.rules.specs.declared.Made.{Made}
 use Rattle.rules.specs.Walk.{part_of}
 
 -- A LIST
@@ -28,16 +28,16 @@ apart_of file p = apart (key_at count_and_word file) (list_of file counted_antig
 unfoldable pub lists_apart : Text → List ℕ → List ℕ → Bool
 lists_apart file first own = not (keys_among (key_at count_and_word file) own first && keys_among (key_at count_and_word file) first own)
 
--- it stands at the front of a room, if it fits
-pub record MadeIs (list room : List ℕ) (r : Made) : Type 0 where
-  pub made_in : r.n ≤ length room
-  pub made_is : r.fits ≡ true → take r.n room ≡ list
+-- it stands at the front of a room, if it fits; of so many entries then
+pub record MadeIs (list room : List ℕ) (r : Option ℕ) : Type 0 where
+  pub made_in : unwrap_or r 0 ≤ length room
+  pub made_is : is_some r ≡ true → take (unwrap_or r 0) room ≡ list
 
 -- or from position k on, and what stands before is as it was
-pub record BehindIs (list : List ℕ) (k : ℕ) (old room : List ℕ) (r : Made) : Type 0 where
-  pub behind_in : k + r.n ≤ length room
+pub record BehindIs (list : List ℕ) (k : ℕ) (old room : List ℕ) (r : Option ℕ) : Type 0 where
+  pub behind_in : k + unwrap_or r 0 ≤ length room
   pub before_kept : take k room ≡ take k old
-  pub behind_is : r.fits ≡ true → part room k (k + r.n) ≡ list
+  pub behind_is : is_some r ≡ true → part room k (k + unwrap_or r 0) ≡ list
 
 -- WHAT A ROOM HOLDS
 

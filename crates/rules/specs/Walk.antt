@@ -1,8 +1,8 @@
 -- Working definitions: the walk over the lines, what its state says of the lines before, and what is known at a line. No public contract rests
 -- on this page.
 -- Assumes nothing.
-use Rattle.std.specs.Prelude.{ℕ, suc, ◌+◌, ◌≤◌, ◌<◌, ◌≡◌, Bool, true, false, cond, ◌&&◌, List, reverse, length, get_or, take, drop, eqb}
-use Rattle.house.specs.Text.{Text, those, how_many, front, is_empty, same, number, joined}
+use Rattle.std.specs.Prelude.{ℕ, suc, ◌+◌, ◌≤◌, ◌<◌, ◌≡◌, Bool, true, false, cond, ◌&&◌, List, reverse, length, get_or, take, drop, eqb, Option, Some, None, unwrap_or}
+use Rattle.house.specs.Text.{Text, those, how_many, front, is_empty, same, number}
 use Rattle.dates.specs.Dates.{is_date}
 use Rattle.lines_fields.specs.declared.Span.{Span}
 use Rattle.lines_fields.specs.Lines.{line_of, line_len}
@@ -16,7 +16,6 @@ use Rattle.rules_definitions.specs.Forms.{text, is_historical}
 use Rattle.rules_definitions.specs.Contexts.{nearest, is_numbered}
 use Rattle.rules_definitions.specs.Blocks.{is_in_block, event_of, nearest_of, open_after, has_second, first_open, before_open}
 use Rattle.rules.specs.declared.Open.{Open}
-use Rattle.rules.specs.declared.DayRead.{DayRead}
 use Rattle.rules.specs.declared.Known.{Known}
 use Rattle.rules.specs.declared.State.{State}
 use Rattle.rules.specs.declared.Read.{Read}
@@ -62,14 +61,14 @@ pub record LinesAre (file : Text) (at : ℕ) (p : Span) (ls : List Rec) : Type 0
   pub upto : p.end ≤ at
 
 -- a day of this number, and none
-abbrev pub one_day : ℕ → DayRead
-one_day n = record { sound = true; number = n }
+abbrev pub one_day : ℕ → Option ℕ
+one_day n = Some n
 
-abbrev pub no_day : DayRead
-no_day = record { sound = false; number = 0 }
+abbrev pub no_day : Option ℕ
+no_day = None
 
 -- the day that a text gives, if it is a date
-unfoldable pub day_of : Text → DayRead
+unfoldable pub day_of : Text → Option ℕ
 day_of t = cond (is_date t) (one_day (number t)) no_day
 
 -- where fields 3, 4, 6 and 8 of a line stand
@@ -82,7 +81,7 @@ pub record OpenIs (file : Text) (o : Open) (l : Rec) : Type 0 where
 -- what the nearest IP, II and IN before a line give
 pub record KnownIs (file : Text) (before : List Rec) (k : Known) : Type 0 where
   pub uli_is : text (nearest IP before) 3 ≡ part_of file k.uli
-  pub born_is : k.born ≡ (day_of (text (nearest IP before) 25)).number
+  pub born_is : k.born ≡ unwrap_or (day_of (text (nearest IP before) 25)) 0
   pub historical_is : k.historical ≡ is_historical (text (nearest II before) 5)
   pub vaccine_is : text (nearest II before) 8 ≡ part_of file k.vaccine
   pub ii_day_is : k.ii_day ≡ day_of (text (nearest II before) 6)
@@ -159,7 +158,7 @@ unfoldable pub vaccine_by : Text → List ℕ → ℕ → Span → Span
 vaccine_by file m k was = cond (eqb k II) (judged_span file m 8) was
 
 -- the day of the record that it belongs to
-unfoldable pub day_by : Rec → ℕ → DayRead → DayRead → DayRead
+unfoldable pub day_by : Rec → ℕ → Option ℕ → Option ℕ → Option ℕ
 day_by l k ii-day in-day = cond (eqb k II) (day_of (text l 6)) (cond (eqb k IE) ii-day (cond (eqb k IN) (day_of (text l 5)) in-day))
 
 -- the IE lines from a position on end at r

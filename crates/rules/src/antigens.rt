@@ -13,6 +13,9 @@ use lines_fields::{judged, part};
 use lines_words::{WORD, has_between};
 use rules_forms::sound_text;
 
+// The mark of field 4 of an IE, its antigen: where it starts.
+const ANTIGEN_MARK: usize = 3;
+
 // Rule 12 by a scan. The lines are asked for first: most antigens are given once.
 fn rule12_scanned(t: &[u8], since: &[u8]) -> bool
     ensures { result ≡ antigen_again t.now since.now }
@@ -36,7 +39,7 @@ fn antigen_found(file: &[u8], marks: &[u32], here: Here, l: Lists, room: &[u32])
         let from = l.firsts;
         let to = l.owns;
         let since = here.since as u32;
-        return has_between(file, WORD, &room[from..to], since, marks[3]);
+        return has_between(file, WORD, &room[from..to], since, marks[ANTIGEN_MARK]);
     }
     rule12_scanned(judged(file, marks, 4), part(file, here.since, here.at))
 }

@@ -5,7 +5,7 @@ ghost use Rattle.lines_fields.specs.Inside.{part};
 ghost use Rattle.rules.specs.declared.By.{By};
 ghost use Rattle.rules.specs.Fields.{day_until, ii_day, Judges};
 
-use crate::{By, DayRead, Here};
+use crate::{By, Here};
 use lines::{IA, IE, IN, IP, IV};
 use lines_fields::{Span, judged, part};
 use rules_fields::{ANY_END, Broken, Day, code_field, ie4_antigen};
@@ -27,18 +27,18 @@ pub(crate) fn span_text(file: &[u8], p: Span) -> &[u8]
 }
 
 // The day of a record, whose codes are not to have ended before another.
-fn day_until(day: DayRead, until: u32) -> Day
+fn day_until(day: Option<u32>, until: u32) -> Day
     ensures { result ≡ day_until day until }
 {
     Day {
-        sound: day.sound,
-        number: day.number,
+        sound: day.is_some(),
+        number: day.unwrap_or(0),
         until,
     }
 }
 
 // The day of an II: only where II 5 is H may its codes, and those of its IE, have ended before today.
-pub(crate) fn ii_day(day: DayRead, historical: bool, today: u32) -> Day
+pub(crate) fn ii_day(day: Option<u32>, historical: bool, today: u32) -> Day
     ensures { result ≡ ii_day day historical today }
 {
     if historical {

@@ -2,13 +2,13 @@
 ghost use Rattle.std.specs.Prelude.{◌≡◌, not, ◌&&◌, ◌≤◌, length};
 ghost use Rattle.rules_walk.specs.Firsts.{file_most};
 ghost use Rattle.rules.specs.Look.{setting_by};
-ghost use Rattle.rules.specs.Judged.{WalkIs};
+ghost use Rattle.rules.specs.Judged.{room_most, WalkIs};
 
 use crate::line::judge_line;
 use crate::look::look;
 use crate::questions::{no_lists, with_answers};
 use crate::walk::{advance, start};
-use crate::{By, Walked};
+use crate::{By, Judged, SHORT_FILE};
 use lines_fields::MARKS;
 use rules_fields::Facts;
 
@@ -46,7 +46,7 @@ fn walk(
     firsts: &mut [u32],
     area: &mut [u8],
     room: &mut [u32],
-) -> Walked
+) -> Judged
     requires { length file.now ≤ file_most }
     ensures { WalkIs (setting_by by book.now ledger.now)
         file.now table.now area.old firsts.old result area.new firsts.new }
@@ -57,6 +57,7 @@ fn walk(
     let mut at = 0;
     let mut findings = 0;
     let mut blocks: usize = 0;
+    // Not a `for`: the position goes on by the length of the line that it is at.
     while at < file.len() {
         let here = look(file, &mut marks, at, st, table, ledger, by.live);
         let answered = with_answers(file, &marks, here, lists, room);
@@ -72,50 +73,16 @@ fn walk(
         }
     }
     let not_immunized = st.not_immunized;
-    Walked {
+    Judged {
         blocks,
         findings,
         not_immunized,
     }
 }
 
-// The same in a room for the lists of a short file. The less room there is, the less is to be cleared.
-pub(crate) fn walk_in_small_room(
-    file: &[u8],
-    table: &[u8],
-    ledger: &[u8],
-    book: &[u8],
-    by: By,
-    firsts: &mut [u32],
-    area: &mut [u8],
-) -> Walked
-    requires { length file.now ≤ file_most }
-    ensures { WalkIs (setting_by by book.now ledger.now)
-        file.now table.now area.old firsts.old result area.new firsts.new }
-{
-    let mut room = [0u32; SMALL_ROOM];
-    walk(file, table, ledger, book, by, firsts, area, &mut room)
-}
-
-// The same in a room for the lists of a file that is not long.
-fn walk_in_medium_room(
-    file: &[u8],
-    table: &[u8],
-    ledger: &[u8],
-    book: &[u8],
-    by: By,
-    firsts: &mut [u32],
-    area: &mut [u8],
-) -> Walked
-    requires { length file.now ≤ file_most }
-    ensures { WalkIs (setting_by by book.now ledger.now)
-        file.now table.now area.old firsts.old result area.new firsts.new }
-{
-    let mut room = [0u32; MEDIUM_ROOM];
-    walk(file, table, ledger, book, by, firsts, area, &mut room)
-}
-
-// The same in a room of a size. The size is a parameter, since a room as large as the largest is too long a list to be counted out in a proof.
+// The same in a room of so many places. Each room has a frame of its own, so that the check of a short file reserves no larger one. The size is a
+// parameter, since a room as large as the largest is too long a list to be counted out in a proof.
+#[inline(never)]
 fn walk_in_room_of<const ROOM: usize>(
     file: &[u8],
     table: &[u8],
@@ -124,9 +91,9 @@ fn walk_in_room_of<const ROOM: usize>(
     by: By,
     firsts: &mut [u32],
     area: &mut [u8],
-) -> Walked
+) -> Judged
     requires file_bound { length file.now ≤ file_most }
-    requires room_bound { ROOM ≤ 1000000 }
+    requires room_bound { ROOM ≤ room_most }
     ensures { WalkIs (setting_by by book.now ledger.now)
         file.now table.now area.old firsts.old result area.new firsts.new }
 {
@@ -134,25 +101,7 @@ fn walk_in_room_of<const ROOM: usize>(
     walk(file, table, ledger, book, by, firsts, area, &mut room)
 }
 
-// The same in a room for all the lists that a file can have.
-fn walk_in_large_room(
-    file: &[u8],
-    table: &[u8],
-    ledger: &[u8],
-    book: &[u8],
-    by: By,
-    firsts: &mut [u32],
-    area: &mut [u8],
-) -> Walked
-    requires { length file.now ≤ file_most }
-    ensures { WalkIs (setting_by by book.now ledger.now)
-        file.now table.now area.old firsts.old result area.new firsts.new }
-{
-    walk_in_room_of::<LARGE_ROOM>(file, table, ledger, book, by, firsts, area)
-}
-
-// The same in a room for the lists of a file that is not short. It is called at two places, and lends two rooms: so the compiler gives it a frame of
-// its own, and the check of a short file reserves neither.
+// The same in a room for the lists of a file of this length. The less room there is, the less is to be cleared.
 pub(crate) fn walk_in_room(
     file: &[u8],
     table: &[u8],
@@ -161,13 +110,16 @@ pub(crate) fn walk_in_room(
     by: By,
     firsts: &mut [u32],
     area: &mut [u8],
-) -> Walked
+) -> Judged
     requires { length file.now ≤ file_most }
     ensures { WalkIs (setting_by by book.now ledger.now)
         file.now table.now area.old firsts.old result area.new firsts.new }
 {
-    if file.len() <= MEDIUM_FILE {
-        return walk_in_medium_room(file, table, ledger, book, by, firsts, area);
+    if file.len() <= SHORT_FILE {
+        return walk_in_room_of::<SMALL_ROOM>(file, table, ledger, book, by, firsts, area);
     }
-    walk_in_large_room(file, table, ledger, book, by, firsts, area)
+    if file.len() <= MEDIUM_FILE {
+        return walk_in_room_of::<MEDIUM_ROOM>(file, table, ledger, book, by, firsts, area);
+    }
+    walk_in_room_of::<LARGE_ROOM>(file, table, ledger, book, by, firsts, area)
 }

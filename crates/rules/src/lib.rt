@@ -36,13 +36,6 @@ const SHORT_FILE: usize = 16384;
 // Lists of so many lines at most are scanned; longer ones go to a room.
 const FEW_LINES: usize = 16;
 
-// A day that a field gives: whether it is one, and its number.
-#[derive(Clone, Copy)]
-struct DayRead {
-    sound: bool,
-    number: u32,
-}
-
 // What is known at a line beside its marks, as `Seen` has it: its kind; whether its II 5 is H; its number, its place; where it and the next
 // line start; its IP's ULI and day of birth; its II's vaccine; the day of its II or IN; where the IE lines just before it start; where its
 // block starts; where its own IE lines end, and those of its block's first II; what the table of repeats and the ledger say of it; and what
@@ -59,7 +52,7 @@ struct Here {
     uli: Span,
     born: u32,
     vaccine: Span,
-    day: DayRead,
+    day: Option<u32>,
     since: usize,
     block: usize,
     own: usize,
@@ -85,13 +78,6 @@ struct Lists {
     own_made: bool,
     antigens_met: usize,
     lots_met: usize,
-}
-
-// A list that was made: how many entries it has, and whether they fit.
-#[derive(Clone, Copy)]
-struct Made {
-    n: usize,
-    fits: bool,
 }
 
 // An answer, and what the room holds after it was asked for.
@@ -132,8 +118,8 @@ struct Known {
     born: u32,
     historical: bool,
     vaccine: Span,
-    ii_day: DayRead,
-    in_day: DayRead,
+    ii_day: Option<u32>,
+    in_day: Option<u32>,
 }
 
 // The block that is open: its nearest II, where it starts, whether it has a second II, and the IE lines of its first.
@@ -173,21 +159,10 @@ struct BlockAt {
     from: usize,
 }
 
-// What a whole walk finds: how many blocks, findings and IN records.
+// How many blocks, findings and IN records a file has.
 #[derive(Clone, Copy)]
-struct Walked {
-    blocks: usize,
-    findings: usize,
-    not_immunized: usize,
-}
-
-// How many blocks, findings and IN records a file has; or the file is too long, or its blocks are too many, for the room lent.
-#[derive(Clone, Copy)]
-pub enum Judged {
-    Done {
-        blocks: usize,
-        findings: usize,
-        not_immunized: usize,
-    },
-    TooMany,
+pub struct Judged {
+    pub blocks: usize,
+    pub findings: usize,
+    pub not_immunized: usize,
 }

@@ -1,7 +1,7 @@
 // The fields of a line that a rule is placed on, each judged by the kind of its record.
-ghost use Rattle.std.specs.Prelude.{◌≡◌, ◌+◌, ◌^◌, ◌≤◌, ◌<◌};
+ghost use Rattle.std.specs.Prelude.{◌≡◌, ℕ, ◌+◌, ◌^◌, ◌≤◌, ◌<◌};
 ghost use Rattle.house.specs.Text.{Text};
-ghost use Rattle.rules.specs.Fields.{Bookless, line_most, Judges, JudgesLine, relaxed_in, last_field, last_of, next_field};
+ghost use Rattle.rules.specs.Fields.{Bookless, line_most, Judges, JudgesFields, JudgesLine, relaxed_in, last_field, last_of, next_field};
 
 use crate::emit::emit;
 use crate::fields::{judge_ia, judge_ie, judge_in, judge_ip, judge_iv, judge_plain};
@@ -74,103 +74,24 @@ fn next_field(kind: u8, f: usize) -> usize
     }
 }
 
-// The fields of an II: their findings put to the others.
-fn judge_ii_line(
-    file: &[u8],
-    marks: &[u32],
+// The fields of a line up to the last that is judged, each by a function: their findings put to the others.
+fn judge_fields<F: Fn(usize) -> Broken>(
     here: Here,
-    book: &[u8],
-    by: By,
+    last: usize,
+    judge: F,
     area: &mut [u8],
     count: usize,
 ) -> usize
-    requires kind_value { here.kind ≡ 4 }
+    requires callable { (f : ℕ) → f ≤ 28 → F.pre judge f }
+    requires not_ip { here.kind ≡ 3 → ⊥ }
+    requires last_bound { last ≤ 25 }
     requires line_most_bound { count + line_most < 2 ^ 64 }
-    ensures { JudgesLine file.now marks.now here book.now by count area.old result area.new }
+    ensures { JudgesFields (F.post judge) here last count area.old result area.new }
 {
-    let last = last_of(II, count_marked(marks));
-    let relaxed = relaxed_of(file, marks);
     let mut c = count;
-    let mut f = 2;
-    while f <= last {
-        let b = judge_ii(file, marks, here, book, by, relaxed, f);
+    for f in 2..last + 1 {
+        let b = judge(f);
         c = emit(area, c, here.n, f, b);
-        f += 1;
-    }
-    c
-}
-
-// The fields of an IE: their findings put to the others.
-fn judge_ie_line(
-    file: &[u8],
-    marks: &[u32],
-    here: Here,
-    book: &[u8],
-    by: By,
-    area: &mut [u8],
-    count: usize,
-) -> usize
-    requires kind_value { here.kind ≡ 5 }
-    requires line_most_bound { count + line_most < 2 ^ 64 }
-    ensures { JudgesLine file.now marks.now here book.now by count area.old result area.new }
-{
-    let last = last_of(IE, count_marked(marks));
-    let mut c = count;
-    let mut f = 2;
-    while f <= last {
-        let b = judge_ie(file, marks, here, book, by, f);
-        c = emit(area, c, here.n, f, b);
-        f += 1;
-    }
-    c
-}
-
-// The fields of an IN: their findings put to the others.
-fn judge_in_line(
-    file: &[u8],
-    marks: &[u32],
-    here: Here,
-    book: &[u8],
-    by: By,
-    area: &mut [u8],
-    count: usize,
-) -> usize
-    requires kind_value { here.kind ≡ 6 }
-    requires line_most_bound { count + line_most < 2 ^ 64 }
-    ensures { JudgesLine file.now marks.now here book.now by count area.old result area.new }
-{
-    let last = last_of(IN, count_marked(marks));
-    let mut c = count;
-    let mut f = 2;
-    while f <= last {
-        let b = judge_in(file, marks, here, book, by, f);
-        c = emit(area, c, here.n, f, b);
-        f += 1;
-    }
-    c
-}
-
-// The fields of an IA: their findings put to the others.
-fn judge_ia_line(
-    file: &[u8],
-    marks: &[u32],
-    here: Here,
-    book: &[u8],
-    by: By,
-    area: &mut [u8],
-    count: usize,
-) -> usize
-    requires kind_value { here.kind ≡ 7 }
-    requires line_most_bound { count + line_most < 2 ^ 64 }
-    ensures { JudgesLine file.now marks.now here book.now by count area.old result area.new }
-{
-    let last = last_of(IA, count_marked(marks));
-    let mut c = count;
-    let mut f = 2;
-    while f <= last {
-        let b = judge_ia(file, marks, here, book, by, f);
-        c = emit(area, c, here.n, f, b);
-        f += 1;
     }
     c
 }
@@ -191,6 +112,7 @@ fn judge_other_line(
     let last = last_of(here.kind, count_marked(marks));
     let mut c = count;
     let mut f = 2;
+    // Not a `for`: of an IP the field goes from 3 on to 25.
     while f <= last {
         let b = judge_other(file, marks, here, by, f);
         c = emit(area, c, here.n, f, b);
@@ -213,11 +135,39 @@ pub(crate) fn judge_line(
     ensures { JudgesLine file.now marks.now here book.now by count area.old result area.new }
 {
     let kind = here.kind;
+    let last = last_of(kind, count_marked(marks));
     match kind {
-        II => judge_ii_line(file, marks, here, book, by, area, count),
-        IE => judge_ie_line(file, marks, here, book, by, area, count),
-        IN => judge_in_line(file, marks, here, book, by, area, count),
-        IA => judge_ia_line(file, marks, here, book, by, area, count),
+        II => {
+            let relaxed = relaxed_of(file, marks);
+            judge_fields(
+                here,
+                last,
+                |f| judge_ii(file, marks, here, book, by, relaxed, f),
+                area,
+                count,
+            )
+        }
+        IE => judge_fields(
+            here,
+            last,
+            |f| judge_ie(file, marks, here, book, by, f),
+            area,
+            count,
+        ),
+        IN => judge_fields(
+            here,
+            last,
+            |f| judge_in(file, marks, here, book, by, f),
+            area,
+            count,
+        ),
+        IA => judge_fields(
+            here,
+            last,
+            |f| judge_ia(file, marks, here, book, by, f),
+            area,
+            count,
+        ),
         _ => judge_other_line(file, marks, here, by, area, count),
     }
 }

@@ -8,30 +8,24 @@ ghost use Rattle.rules_walk.specs.Firsts.{file_most};
 ghost use Rattle.rules.specs.Walk.{ReadIn, rec_in, ReadAs, day_of, historical_by, vaccine_by, day_by, OwnIs, OwnEnd, here_with, HereIs, Holds, LookAt};
 
 use crate::blocks::{block_of, facts_of};
-use crate::{BlockAt, DayRead, Here, Read, State};
+use crate::{BlockAt, Here, Read, State};
 use lines::{IE, II, IN};
 use lines_fields::{Span, judged, judged_span, part};
 use rules_fields::Facts;
 
-// The day that a text gives: whether it is a date, and its number.
-pub(crate) fn day_of_text(t: &[u8]) -> DayRead
+// The day that a text gives, if it is a date: its number.
+pub(crate) fn day_of_text(t: &[u8]) -> Option<u32>
     ensures { result ≡ day_of t.now }
 {
     let d = dates::Date::of(t);
     match d {
-        dates::Dated::Day(day) => DayRead {
-            sound: true,
-            number: day.number,
-        },
-        dates::Dated::NoDate => DayRead {
-            sound: false,
-            number: 0,
-        },
+        Some(day) => Some(day.number),
+        None => None,
     }
 }
 
 // The day that field f of a line gives.
-pub(crate) fn day_in(file: &[u8], marks: &[u32], f: usize) -> DayRead
+pub(crate) fn day_in(file: &[u8], marks: &[u32], f: usize) -> Option<u32>
     requires read_in { ReadIn file.now marks.now }
     requires f_bound { f ≤ 28 }
     ensures { result ≡ day_of (text (rec_in file.now marks.now) f) }
@@ -46,6 +40,7 @@ pub(crate) fn ie_end(file: &[u8], from: usize) -> usize
     ensures { OwnIs file.now from result }
 {
     let mut at = from;
+    // Not a `for`: the position goes on by the length of the line that it is at.
     while at < file.len() {
         let l = lines_fields::line_at(file, at);
         let end = l.end;
@@ -91,7 +86,13 @@ fn vaccine_of(file: &[u8], marks: &[u32], k: u8, was: Span) -> Span
 }
 
 // The day of the record that a line of kind k belongs to: an II's or an IN's own, an IE's of the nearest II, an IA's of the nearest IN.
-fn day_of(file: &[u8], marks: &[u32], k: u8, ii_day: DayRead, in_day: DayRead) -> DayRead
+fn day_of(
+    file: &[u8],
+    marks: &[u32],
+    k: u8,
+    ii_day: Option<u32>,
+    in_day: Option<u32>,
+) -> Option<u32>
     requires { ReadIn file.now marks.now }
     ensures { result ≡ day_by (rec_in file.now marks.now) k ii_day in_day }
 {

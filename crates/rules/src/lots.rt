@@ -14,6 +14,9 @@ use lines_fields::{count_marked, judged, part};
 use lines_words::{WORD, has_between};
 use rules_forms::sound_text;
 
+// The mark of field 15 of an II, its lot: where it starts.
+const LOT_MARK: usize = 14;
+
 // Whether an earlier II of its block has the lot of an II, which has the form of a lot: by the room's list, if it was made.
 fn lot_found(file: &[u8], marks: &[u32], here: Here, l: Lists, room: &[u32]) -> bool
     requires ask_at { AskAt file.now marks.now here }
@@ -26,7 +29,7 @@ fn lot_found(file: &[u8], marks: &[u32], here: Here, l: Lists, room: &[u32]) -> 
         let from = 0;
         let to = l.lots;
         let block = here.block as u32;
-        return has_between(file, WORD, &room[from..to], block, marks[14]);
+        return has_between(file, WORD, &room[from..to], block, marks[LOT_MARK]);
     }
     rules_lists::rule14_any_lot(judged(file, marks, 15), part(file, here.block, here.at))
 }

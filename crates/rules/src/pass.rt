@@ -1,12 +1,12 @@
 // Judging a file: one walk over it, the index of its blocks, and where two blocks name one event a second walk.
-ghost use Rattle.std.specs.Prelude.{◌≡◌, [], ◌*◌, ◌≤◌, length, take, replicate};
+ghost use Rattle.std.specs.Prelude.{◌≡◌, ◌*◌, ◌≤◌, length, take};
 ghost use Rattle.rules_walk.specs.Firsts.{file_most, built_in};
 ghost use Rattle.rules.specs.Look.{setting_by};
-ghost use Rattle.rules.specs.Judged.{short_file, judged_of, judged_area, WalkIs, AgainIs, Judging, Sorting};
+ghost use Rattle.rules.specs.Judged.{judged_of, judged_area, table_most, AgainIs, Judging, Sorting};
 
-use crate::file_walk::{walk_in_room, walk_in_small_room};
-use crate::{By, Judged, SHORT_FILE, Walked};
-use rules_walk::{Built, MOST_BYTES};
+use crate::file_walk::walk_in_room;
+use crate::{By, Judged, SHORT_FILE};
+use rules_walk::MOST_BYTES;
 
 // The tables by position, of a short file and of any: sixteen bytes of a file have an entry.
 const SHORT_TABLE: usize = 1024;
@@ -24,80 +24,28 @@ fn front(places: &[u32], n: usize) -> &[u32]
     &places[from..n]
 }
 
-// How many findings a file has, the blocks that repeat an event being noted by its index in a table that is clear; those that fit are written.
-fn walk_noted(
+// How many findings a file has, the blocks that repeat an event being noted by its index in a table of so many entries; those that fit are
+// written. The less table there is, the less is to be cleared; each has a frame of its own, so that the check of a short file reserves no larger
+// one.
+#[inline(never)]
+fn walk_noted<const TABLE: usize>(
     file: &[u8],
     index: &[u32],
-    table: &mut [u8],
     ledger: &[u8],
     book: &[u8],
     by: By,
     area: &mut [u8],
 ) -> usize
-    requires file_len_bound { length file.now ≤ file_most }
-    requires table_value { table.old ≡ replicate (length table.old) 0 }
-    requires file_len_bound_2 { length file.now ≤ 16 * length table.old }
+    requires file_bound { length file.now ≤ file_most }
+    requires entries_bound { length file.now ≤ 16 * TABLE }
+    requires table_bound { TABLE ≤ table_most }
     ensures { AgainIs (setting_by by book.now ledger.now)
         file.now index.now area.old result area.new }
 {
-    rules_walk::note_repeats(file, index, table);
+    let mut table = [0u8; TABLE];
+    rules_walk::note_repeats(file, index, &mut table);
     let mut none = [0u32; 0];
-    walk_in_room(file, table, ledger, book, by, &mut none, area).findings
-}
-
-// The same of a short file, in a small room for lists.
-fn walk_noted_short(
-    file: &[u8],
-    index: &[u32],
-    table: &mut [u8],
-    ledger: &[u8],
-    book: &[u8],
-    by: By,
-    area: &mut [u8],
-) -> usize
-    requires file_len_bound { length file.now ≤ file_most }
-    requires table_value { table.old ≡ replicate (length table.old) 0 }
-    requires file_len_bound_2 { length file.now ≤ 16 * length table.old }
-    ensures { AgainIs (setting_by by book.now ledger.now)
-        file.now index.now area.old result area.new }
-{
-    rules_walk::note_repeats(file, index, table);
-    let mut none = [0u32; 0];
-    walk_in_small_room(file, table, ledger, book, by, &mut none, area).findings
-}
-
-// The same of a short file: the less table there is, the less is to be cleared.
-fn walk_short(
-    file: &[u8],
-    index: &[u32],
-    ledger: &[u8],
-    book: &[u8],
-    by: By,
-    area: &mut [u8],
-) -> usize
-    requires { length file.now ≤ short_file }
-    ensures { AgainIs (setting_by by book.now ledger.now)
-        file.now index.now area.old result area.new }
-{
-    let mut table = [0u8; SHORT_TABLE];
-    walk_noted_short(file, index, &mut table, ledger, book, by, area)
-}
-
-// The same of a file as long as can be judged.
-fn walk_long(
-    file: &[u8],
-    index: &[u32],
-    ledger: &[u8],
-    book: &[u8],
-    by: By,
-    area: &mut [u8],
-) -> usize
-    requires { length file.now ≤ file_most }
-    ensures { AgainIs (setting_by by book.now ledger.now)
-        file.now index.now area.old result area.new }
-{
-    let mut table = [0u8; LONG_TABLE];
-    walk_noted(file, index, &mut table, ledger, book, by, area)
+    walk_in_room(file, &table, ledger, book, by, &mut none, area).findings
 }
 
 // The same by the first n places of an area, or by all where there are fewer.
@@ -116,65 +64,31 @@ fn walk_by(
 {
     let index = front(places, n);
     if file.len() <= SHORT_FILE {
-        return walk_short(file, index, ledger, book, by, area);
+        return walk_noted::<SHORT_TABLE>(file, index, ledger, book, by, area);
     }
-    walk_long(file, index, ledger, book, by, area)
+    walk_noted::<LONG_TABLE>(file, index, ledger, book, by, area)
 }
 
 // Puts the places of the blocks that a walk gathered in order; where two of them name one event, the walk is made again by that index.
 fn judge_sorted(
     file: &[u8],
-    w: Walked,
+    w: Judged,
     book: &[u8],
     by: By,
     ledger: &[u8],
     room: &mut [u32],
     area: &mut [u8],
-) -> Judged
+) -> Option<Judged>
     requires { length file.now ≤ file_most }
     ensures { Sorting file.now book.now by ledger.now w
         room.old area.old result room.new area.new }
 {
-    let built = rules_walk::sort_index(file, room, w.blocks);
-    match built {
-        Built::TooMany => Judged::TooMany,
-        Built::Blocks { blocks, distinct } => {
-            let not_immunized = w.not_immunized;
-            if distinct {
-                return Judged::Done {
-                    blocks,
-                    findings: w.findings,
-                    not_immunized,
-                };
-            }
-            let findings = walk_by(file, room, blocks, ledger, book, by, area);
-            Judged::Done {
-                blocks,
-                findings,
-                not_immunized,
-            }
-        }
+    let built = rules_walk::sort_index(file, room, w.blocks)?;
+    if built.distinct {
+        return Some(w);
     }
-}
-
-// The walk over a file as if no event were named twice.
-fn walk_once(
-    file: &[u8],
-    ledger: &[u8],
-    book: &[u8],
-    by: By,
-    firsts: &mut [u32],
-    area: &mut [u8],
-) -> Walked
-    requires { length file.now ≤ file_most }
-    ensures { WalkIs (setting_by by book.now ledger.now)
-        file.now [] area.old firsts.old result area.new firsts.new }
-{
-    let none = [0u8; 0];
-    if file.len() <= SHORT_FILE {
-        return walk_in_small_room(file, &none, ledger, book, by, firsts, area);
-    }
-    walk_in_room(file, &none, ledger, book, by, firsts, area)
+    let findings = walk_by(file, room, w.blocks, ledger, book, by, area);
+    Some(Judged { findings, ..w })
 }
 
 // Judges a file of a length that is judged: its findings are counted, and those that fit written, as if no event were named twice; where two
@@ -186,12 +100,13 @@ fn judge_file(
     ledger: &[u8],
     room: &mut [u32],
     area: &mut [u8],
-) -> Judged
+) -> Option<Judged>
     requires { length file.now ≤ file_most }
     ensures { Judging file.now book.now by ledger.now
         room.old area.old result room.new area.new }
 {
-    let w = walk_once(file, ledger, book, by, room, area);
+    let none = [0u8; 0];
+    let w = walk_in_room(file, &none, ledger, book, by, room, area);
     judge_sorted(file, w, book, by, ledger, room, area)
 }
 
@@ -203,14 +118,14 @@ pub fn judge(
     ledger: &[u8],
     room: &mut [u32],
     area: &mut [u8],
-) -> Judged
+) -> Option<Judged>
     ensures value { result ≡ judged_of file.now book.now by ledger.now (length room.old) }
     ensures room_after { room.new ≡ built_in file.now room.old }
     ensures area_after { area.new ≡ judged_area file.now book.now by ledger.now
         (length room.old) area.old }
 {
     if MOST_BYTES < file.len() {
-        return Judged::TooMany;
+        return None;
     }
     judge_file(file, book, by, ledger, room, area)
 }

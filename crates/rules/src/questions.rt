@@ -62,20 +62,10 @@ fn meet(l: Lists, here: Here) -> Lists
     ensures { result ≡ with_met l result.antigens_met result.lots_met }
 {
     let facts = here.facts;
-    let first = l.first;
-    let own = l.own;
     Lists {
-        lots: l.lots,
-        lots_made: l.lots_made,
-        first,
-        firsts: l.firsts,
-        first_made: l.first_made,
-        first_sound: l.first_sound,
-        own,
-        owns: l.owns,
-        own_made: l.own_made,
         antigens_met: next_antigens_met(l.antigens_met, here.kind),
         lots_met: next_lots_met(l.lots_met, here.kind, facts.joined),
+        ..l
     }
 }
 
@@ -151,30 +141,7 @@ fn ask(file: &[u8], marks: &[u32], here: Here, l: Lists, room: &mut [u32]) -> An
 fn answer(h: Here, again: bool, differ: bool) -> Here
     ensures { result ≡ answered h again differ }
 {
-    let uli = h.uli;
-    let vaccine = h.vaccine;
-    let day = h.day;
-    let first = h.first;
-    let facts = h.facts;
-    Here {
-        kind: h.kind,
-        historical: h.historical,
-        n: h.n,
-        place: h.place,
-        at: h.at,
-        next: h.next,
-        uli,
-        born: h.born,
-        vaccine,
-        day,
-        since: h.since,
-        block: h.block,
-        own: h.own,
-        first,
-        facts,
-        again,
-        differ,
-    }
+    Here { again, differ, ..h }
 }
 
 // What is known of a line, with what rules 12 to 14 ask of other lines.

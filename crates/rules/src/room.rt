@@ -6,7 +6,7 @@ ghost use Rattle.lines_words.specs.Words.{count_and_word, key_at, in_order, apar
 ghost use Rattle.rules.specs.Room.{list_of, apart_of, MadeIs, BehindIs, with_lots, with_first, with_own, is_span, has_first, has_own, ListsAre, OwnHeld};
 
 use crate::look::ie_end;
-use crate::{Here, Lists, Made};
+use crate::{Here, Lists};
 use lines_fields::Span;
 use lines_words::{COUNT_AND_WORD, WORD};
 use rules_lists::{ANTIGENS, COUNTED_ANTIGENS, LOTS};
@@ -29,28 +29,27 @@ fn keep_front_apart(file: &[u8], room: &mut [u32], n: usize) -> usize
     lines_words::keep_apart(file, COUNT_AND_WORD, &mut room[..n])
 }
 
-// The entries of a part of the file, in order at the front of a room, if they fit.
-fn list_in(file: &[u8], p: Span, what: u8, key: u8, room: &mut [u32]) -> Made
+// The entries of a part of the file, in order at the front of a room, if they fit; how many there are then.
+fn list_in(file: &[u8], p: Span, what: u8, key: u8, room: &mut [u32]) -> Option<usize>
     ensures { MadeIs (list_of file.now what key p) room.new result }
 {
     let n = rules_lists::gather(file, p.start, p.end, what, room);
     if room.len() < n {
-        return Made { n: 0, fits: false };
+        return None;
     }
     sort_front(file, key, room, n);
-    Made { n, fits: true }
+    Some(n)
 }
 
 // The antigens with counts of a part of the file, each once, in order at the front of a room, if they fit.
-fn apart_in(file: &[u8], p: Span, room: &mut [u32]) -> Made
+fn apart_in(file: &[u8], p: Span, room: &mut [u32]) -> Option<usize>
     ensures { MadeIs (apart_of file.now p) room.new result }
 {
     let made = list_in(file, p, COUNTED_ANTIGENS, COUNT_AND_WORD, room);
-    if made.fits {
-        let n = keep_front_apart(file, room, made.n);
-        return Made { n, fits: true };
+    if let Some(k) = made {
+        return Some(keep_front_apart(file, room, k));
     }
-    Made { n: 0, fits: false }
+    None
 }
 
 // The entries of a part of the file, in order in a room from position k on, if they fit.
@@ -61,7 +60,7 @@ pub(crate) fn list_behind(
     key: u8,
     room: &mut [u32],
     k: usize,
-) -> Made
+) -> Option<usize>
     requires { k ≤ length room.old }
     ensures { BehindIs (list_of file.now what key p) k room.old room.new result }
 {
@@ -69,7 +68,7 @@ pub(crate) fn list_behind(
 }
 
 // The antigens with counts of a part of the file, each once, in order in a room from position k on, if they fit.
-fn apart_behind(file: &[u8], p: Span, room: &mut [u32], k: usize) -> Made
+fn apart_behind(file: &[u8], p: Span, room: &mut [u32], k: usize) -> Option<usize>
     requires { k ≤ length room.old }
     ensures { BehindIs (apart_of file.now p) k room.old room.new result }
 {
@@ -80,20 +79,15 @@ fn apart_behind(file: &[u8], p: Span, room: &mut [u32], k: usize) -> Made
 fn lots_put(l: Lists, n: usize, made: bool) -> Lists
     ensures { result ≡ with_lots l n made }
 {
-    let first = l.first;
-    let own = l.own;
     Lists {
         lots: n,
         lots_made: made,
-        first,
         firsts: n,
         first_made: false,
         first_sound: false,
-        own,
         owns: n,
         own_made: false,
-        antigens_met: l.antigens_met,
-        lots_met: l.lots_met,
+        ..l
     }
 }
 
@@ -101,19 +95,14 @@ fn lots_put(l: Lists, n: usize, made: bool) -> Lists
 fn first_put(l: Lists, first: Span, n: usize, made: bool, sound: bool) -> Lists
     ensures { result ≡ with_first l first n made sound }
 {
-    let own = l.own;
     Lists {
-        lots: l.lots,
-        lots_made: l.lots_made,
         first,
         firsts: n,
         first_made: made,
         first_sound: sound,
-        own,
         owns: n,
         own_made: false,
-        antigens_met: l.antigens_met,
-        lots_met: l.lots_met,
+        ..l
     }
 }
 
@@ -121,19 +110,11 @@ fn first_put(l: Lists, first: Span, n: usize, made: bool, sound: bool) -> Lists
 pub(crate) fn own_put(l: Lists, own: Span, n: usize, made: bool) -> Lists
     ensures { result ≡ with_own l own n made }
 {
-    let first = l.first;
     Lists {
-        lots: l.lots,
-        lots_made: l.lots_made,
-        first,
-        firsts: l.firsts,
-        first_made: l.first_made,
-        first_sound: l.first_sound,
         own,
         owns: n,
         own_made: made,
-        antigens_met: l.antigens_met,
-        lots_met: l.lots_met,
+        ..l
     }
 }
 
@@ -150,7 +131,7 @@ pub(crate) fn with_lots(file: &[u8], l: Lists, room: &mut [u32]) -> Lists
         end: file.len(),
     };
     let made = list_in(file, whole_file, LOTS, WORD, room);
-    lots_put(l, made.n, made.fits)
+    lots_put(l, made.unwrap_or(0), made.is_some())
 }
 
 // Whether two parts are one.
@@ -181,7 +162,7 @@ fn make_first(file: &[u8], first: Span, l: Lists, room: &mut [u32]) -> Lists
 {
     let made = apart_behind(file, first, room, l.lots);
     let sound = rules_lists::rule13_counts_sound(lines_fields::part(file, first.start, first.end));
-    first_put(l, first, l.lots + made.n, made.fits, sound)
+    first_put(l, first, l.lots + made.unwrap_or(0), made.is_some(), sound)
 }
 
 // The room with the antigens of a first II, if they fit.
@@ -217,7 +198,7 @@ fn make_own(file: &[u8], own: Span, l: Lists, room: &mut [u32]) -> Lists
     ensures own_value { result.own ≡ own }
 {
     let made = list_behind(file, own, ANTIGENS, WORD, room, l.firsts);
-    own_put(l, own, l.firsts + made.n, made.fits)
+    own_put(l, own, l.firsts + made.unwrap_or(0), made.is_some())
 }
 
 // The room with the antigens of the II of this line, if they fit.

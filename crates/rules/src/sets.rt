@@ -74,8 +74,8 @@ fn ask_listed_sets(file: &[u8], marks: &[u32], here: Here, l: Lists, room: &mut 
     let to = l.firsts;
     let made = list_behind(file, own, COUNTED_ANTIGENS, COUNT_AND_WORD, room, to);
     let lists = own_put(l, own, to, false);
-    if made.fits {
-        let found = are_neighbours_apart(file, room, from, to, made.n);
+    if let Some(n) = made {
+        let found = are_neighbours_apart(file, room, from, to, n);
         return Asked { lists, found };
     }
     let found = rule13_scanned(part(file, here.next, here.own), span_text(file, here.first));

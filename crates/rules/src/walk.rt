@@ -4,7 +4,7 @@ ghost use Rattle.rules.specs.Walk.{ReadIn, rec_in, no_open, start_state};
 ghost use Rattle.rules.specs.Advance.{next_place, next_uli, next_born, next_day, next_since, open_in, next_open, next_run, next_many, next_first, next_not_immunized, next_known, next_block, advanced};
 
 use crate::look::day_in;
-use crate::{Block, DayRead, Here, Known, Open, State};
+use crate::{Block, Here, Known, Open, State};
 use lines_fields::{Span, judged_span};
 
 // The place of the next line, if it is numbered.
@@ -35,14 +35,14 @@ fn next_born(file: &[u8], marks: &[u32], k: u8, was: u32) -> u32
     ensures { result ≡ next_born (rec_in file.now marks.now) k was }
 {
     if k == lines::IP {
-        day_in(file, marks, 25).number
+        day_in(file, marks, 25).unwrap_or(0)
     } else {
         was
     }
 }
 
 // The day of the nearest line of kind j.
-fn next_day(j: u8, was: DayRead, k: u8, day: DayRead) -> DayRead
+fn next_day(j: u8, was: Option<u32>, k: u8, day: Option<u32>) -> Option<u32>
     ensures { result ≡ next_day j was k day }
 {
     if k == j { day } else { was }
@@ -201,10 +201,6 @@ pub(crate) fn start() -> State
     ensures { result ≡ start_state }
 {
     let none = Span { start: 0, end: 0 };
-    let no_day = DayRead {
-        sound: false,
-        number: 0,
-    };
     let last = no_open();
     State {
         n: 1,
@@ -214,8 +210,8 @@ pub(crate) fn start() -> State
             born: 0,
             historical: false,
             vaccine: none,
-            ii_day: no_day,
-            in_day: no_day,
+            ii_day: None,
+            in_day: None,
         },
         since: 0,
         block: Block {

@@ -92,7 +92,7 @@ module _ (k : ℕ) (x : Bool) (f : ℕ) (t : Text) (r n : ℕ) (e : r ≡ lowest
       go false true h = absurd (omega arith)
       go false false h = refl
 
--- ii9_site_alone, ii10_method_alone, code_field
+-- listed_field, code_field
 module _ (k : ℕ) (x : Bool) (f : ℕ) (t : Text) (r : ℕ) (e : r ≡ lowest_in k x f t 0) (h : r ≡ 0) where
   module _ (known out : Bool) where
     pub code_empty : length t ≡ 0 → 0 ≡ lowest_in k x f t (rules4and5_of (is_empty t) known out)

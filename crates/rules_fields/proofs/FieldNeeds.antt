@@ -7,21 +7,23 @@ use borrow.Author.Rules.{rules}
 use Rattle.house.specs.Text.{Text, is_empty, pad}
 use Rattle.book.specs.declared.Sections.{Sections}
 use Rattle.rules_definitions.specs.Codes.{is_site, is_method, reason_read}
+use Rattle.rules_definitions.specs.Rules.{site_wrong, method_wrong}
 use Rattle.rules_forms.specs.FieldLeaves.{lowest_in}
 use Rattle.rules_fields.specs.declared.Day.{Day}
 use Rattle.rules_fields.specs.declared.Facts.{Facts}
-use Rattle.rules_fields.specs.Fields.{broken, rules4and5_of, rules16to18_at, code_by, rule9_at_site, rule9_at_method, rule10_by, rule11_by, rule12_by, rule13_by, rule15_by, ii4_type, ii8_vaccine, ii9_site, ii10_method, ii11_reason, ii12_dosage, ii13_dosage_type, ie4_antigen}
+use Rattle.rules_fields.specs.Fields.{broken, rules4and5_of, rules16to18_at, code_by, rule9_by, rule10_by, rule11_by, rule12_by, rule13_by, rule15_by, ii4_type, ii8_vaccine, ii9_site, ii10_method, ii11_reason, ii12_dosage, ii13_dosage_type, ie4_antigen}
 use Rattle.rules_fields.proofs.CodeNeeds.{reason_lacks, antigen_lacks}
 
 module _ (x : Bool) (t u : Text) (a b c : ℕ) where
-  pub site_is : a ≡ lowest_in 4 x 9 t (rules4and5_of (is_empty t) (is_site t) false) → b ≡ rule9_at_site t u → c ≡ rule10_by x t 10 u → broken a b c ≡ ii9_site x t u
+  pub site_is : a ≡ lowest_in 4 x 9 t (rules4and5_of (is_empty t) (is_site t) false) → (w : Bool) → w ≡ site_wrong t u → b ≡ rule9_by w t u → c ≡ rule10_by x t 10 u
+      → broken a b c ≡ ii9_site x t u
   unfolding ii9_site
-  site_is p q r = rw (p, q, r)
+  site_is p w o q r = rw (p, q, o, r)
 
-  pub method_is : a ≡ lowest_in 4 x 10 u (rules4and5_of (is_empty u) (is_method u) false) → b ≡ rule9_at_method t u → c ≡ rule10_by x u 9 t
+  pub method_is : a ≡ lowest_in 4 x 10 u (rules4and5_of (is_empty u) (is_method u) false) → (w : Bool) → w ≡ method_wrong t u → b ≡ rule9_by w t u → c ≡ rule10_by x u 9 t
       → broken a b c ≡ ii10_method x t u
   unfolding ii10_method
-  method_is p q r = rw (p, q, r)
+  method_is p w o q r = rw (p, q, o, r)
 
   pub dosage_is : a ≡ lowest_in 4 x 12 t 0 → b ≡ rule10_by x t 13 u → broken a b 0 ≡ ii12_dosage x t u
   unfolding ii12_dosage

@@ -29,19 +29,19 @@ module _ (u v : Bool) (n : ℕ) (x : Bool) (e : x ≡ u) (h : x ≡ true) where
   pub asked_more : v ≡ true → n ≡ cond (u && v) n 0
   asked_more k = rw (← e, h, k)
 
--- ii9_site_alone, ii10_method_alone
+-- listed_field
 module _ (known : Bool) where
-  pub site_known : (x : Bool) → x ≡ known → x ≡ true → 0 ≡ rules4and5_of false known false
+  pub listed_known : (x : Bool) → x ≡ known → x ≡ true → 0 ≡ rules4and5_of false known false
   unfolding rules4and5_of
-  site_known x e h = rw (← e, h)
+  listed_known x e h = rw (← e, h)
 
-  pub site_unknown : (x : Bool) → x ≡ known → x ≡ false → 4 ≡ rules4and5_of false known false
+  pub listed_unknown : (x : Bool) → x ≡ known → x ≡ false → 4 ≡ rules4and5_of false known false
   unfolding rules4and5_of
-  site_unknown x e h = rw (← e, h)
+  listed_unknown x e h = rw (← e, h)
 
-pub ruleset for_site = (rules, low_broken, code_empty, code_given, site_known, site_unknown)
+pub ruleset for_listed = (rules, low_broken, code_empty, code_given, listed_known, listed_unknown)
 
--- rule9_site, rule9_method, rule10_partner_missing
+-- rule9_if, rule10_partner_missing
 pub ruleset for_asked = (rules, asked_no, asked_not, asked_yes, asked_more, asked_none)
 
 -- rules16_to_18

@@ -73,12 +73,15 @@ rule11_by k t code vaccine book q day =
 abbrev pub rule10_by : Bool → Text → ℕ → Text → ℕ
 rule10_by relaxed t other u = cond (lacks_in t other u && relaxed) 10 0
 
--- rule 9 at II 9, and at II 10
+-- rule 9, by whether one of site and method is wrong for the other; at II 9, and at II 10
+abbrev pub rule9_by : Bool → Text → Text → ℕ
+rule9_by wrong site method = cond (wrong && (given_in II 9 site && given_in II 10 method)) 9 0
+
 abbrev pub rule9_at_site : Text → Text → ℕ
-rule9_at_site site method = cond (site_wrong site method && (given_in II 9 site && given_in II 10 method)) 9 0
+rule9_at_site site method = rule9_by (site_wrong site method) site method
 
 abbrev pub rule9_at_method : Text → Text → ℕ
-rule9_at_method site method = cond (method_wrong site method && (given_in II 9 site && given_in II 10 method)) 9 0
+rule9_at_method site method = rule9_by (method_wrong site method) site method
 
 -- rules 12, 13 and 15, each by whether it is broken
 abbrev pub rule12_by : Bool → ℕ

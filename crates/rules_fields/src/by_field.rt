@@ -3,8 +3,8 @@ ghost use Rattle.std.specs.Prelude.{◌≡◌};
 ghost use Rattle.rules_fields.specs.Fields.{ii4_type, ii8_vaccine, ii9_site, ii10_method, ii11_reason, ii12_dosage, ii13_dosage_type, ie4_antigen};
 
 use crate::by_rule::{
-    ii9_site_alone, ii10_method_alone, rule9_method, rule9_site, rule10_partner_missing,
-    rule12_antigen_again, rule13_antigens_differ, rule15_event_again, rules16_to_18,
+    listed_field, rule9_if, rule10_partner_missing, rule12_antigen_again, rule13_antigens_differ,
+    rule15_event_again, rules16_to_18,
 };
 use crate::codes::{code_field, rule11_pair};
 use crate::{Broken, Day, Facts};
@@ -42,8 +42,8 @@ pub fn ii8_vaccine(
 pub fn ii9_site(relaxed: bool, site: &[u8], method: &[u8]) -> Broken
     ensures { result ≡ ii9_site relaxed site.now method.now }
 {
-    let a = ii9_site_alone(relaxed, site);
-    let b = rule9_site(site, method);
+    let a = listed_field(relaxed, 9, site, |t| rules_tables::is_site(t));
+    let b = rule9_if(rules_tables::rule9_site_wrong(site, method), site, method);
     let c = rule10_partner_missing(relaxed, site, 10, method);
     Broken { a, b, c }
 }
@@ -52,8 +52,8 @@ pub fn ii9_site(relaxed: bool, site: &[u8], method: &[u8]) -> Broken
 pub fn ii10_method(relaxed: bool, site: &[u8], method: &[u8]) -> Broken
     ensures { result ≡ ii10_method relaxed site.now method.now }
 {
-    let a = ii10_method_alone(relaxed, method);
-    let b = rule9_method(site, method);
+    let a = listed_field(relaxed, 10, method, |t| rules_tables::is_method(t));
+    let b = rule9_if(rules_tables::rule9_method_wrong(site, method), site, method);
     let c = rule10_partner_missing(relaxed, method, 9, site);
     Broken { a, b, c }
 }

@@ -1,39 +1,32 @@
 // The later rules of an II and of its IE lines: rules 4 of sites and methods, 9, 10, 12, 13 and 15 to 18.
-ghost use Rattle.std.specs.Prelude.{◌≡◌, false, ◌&&◌};
+ghost use Rattle.std.specs.Prelude.{◌≡◌, Bool, false, ◌&&◌};
+ghost use Rattle.std.specs.Fn.{FnReturnsAt};
 ghost use Rattle.house.specs.Text.{is_empty};
 ghost use Rattle.lines.specs.Records.{II};
-ghost use Rattle.rules_definitions.specs.Codes.{is_site, is_method};
 ghost use Rattle.rules_forms.specs.FieldLeaves.{lowest_in, given_in};
-ghost use Rattle.rules_fields.specs.Fields.{rules4and5_of, rules16to18_at, rule9_at_site, rule9_at_method, rule10_by, rule12_by, rule13_by, rule15_by};
+ghost use Rattle.rules_fields.specs.Fields.{rules4and5_of, rules16to18_at, rule9_by, rule10_by, rule12_by, rule13_by, rule15_by};
 
 use lines::II;
 
-// II 9: rules 1, 2 and 4.
-pub(crate) fn ii9_site_alone(relaxed: bool, t: &[u8]) -> u8
-    ensures { result ≡ lowest_in II relaxed 9 t.now (rules4and5_of (is_empty t.now) (is_site t.now) false) }
+// II 9 or II 10: rules 1, 2 and 4, by whether a text is one of the field's codes, which need no book.
+pub(crate) fn listed_field<F: Fn(&[u8]) -> bool>(
+    relaxed: bool,
+    f: usize,
+    t: &[u8],
+    is_listed: F,
+) -> u8
+    requires { F.IsAlwaysCallable is_listed }
+    ensures { (known : Bool) → ((x : Bool) → FnReturnsAt F.Fn is_listed t.now x → x ≡ known)
+        → result ≡ lowest_in II relaxed f t.now (rules4and5_of (is_empty t.now) known false) }
 {
-    let r = rules_forms::rules1_and_2(II, relaxed, 9, t);
+    let r = rules_forms::rules1_and_2(II, relaxed, f, t);
     if r != 0 {
         return r;
     }
     if t.len() == 0 {
         return 0;
     }
-    if rules_tables::is_site(t) { 0 } else { 4 }
-}
-
-// II 10: rules 1, 2 and 4.
-pub(crate) fn ii10_method_alone(relaxed: bool, t: &[u8]) -> u8
-    ensures { result ≡ lowest_in II relaxed 10 t.now (rules4and5_of (is_empty t.now) (is_method t.now) false) }
-{
-    let r = rules_forms::rules1_and_2(II, relaxed, 10, t);
-    if r != 0 {
-        return r;
-    }
-    if t.len() == 0 {
-        return 0;
-    }
-    if rules_tables::is_method(t) { 0 } else { 4 }
+    if is_listed(t) { 0 } else { 4 }
 }
 
 // Whether site and method are both given.
@@ -47,23 +40,11 @@ fn both_given(site: &[u8], method: &[u8]) -> bool
     }
 }
 
-// Rule 9 at II 9.
-pub(crate) fn rule9_site(site: &[u8], method: &[u8]) -> u8
-    ensures { result ≡ rule9_at_site site.now method.now }
+// Rule 9 at II 9 or II 10, by whether one of site and method is wrong for the other.
+pub(crate) fn rule9_if(wrong: bool, site: &[u8], method: &[u8]) -> u8
+    ensures { result ≡ rule9_by wrong site.now method.now }
 {
-    if rules_tables::rule9_site_wrong(site, method) {
-        if both_given(site, method) {
-            return 9;
-        }
-    }
-    0
-}
-
-// Rule 9 at II 10.
-pub(crate) fn rule9_method(site: &[u8], method: &[u8]) -> u8
-    ensures { result ≡ rule9_at_method site.now method.now }
-{
-    if rules_tables::rule9_method_wrong(site, method) {
+    if wrong {
         if both_given(site, method) {
             return 9;
         }

@@ -5,13 +5,11 @@ use mathlib.Core.Bool.{Bool, true, false}
 use Prim.Native.Nat.{ℕ, ◌+◌, ◌≤◌, ◌<◌}
 use native.Mathlib.Omega.{arith}
 use borrow.Author.Rules.{rules}
-use borrow.Author.Tests.{ne_eqb}
 use lib.Dec.{eqb}
 use lib.ListN.{length, get_or, drop}
 use Rattle.house.specs.Text.{Text, all, is_digit, is_letter, is_letter_or_digit, is_graphic}
 use Rattle.house.proofs.Suffix.{drop_here, drop_past}
 use Rattle.rules_definitions.specs.Forms.{lot_byte}
-use Rattle.rules_forms.specs.Classes.{in_class}
 use Rattle.rules_forms.proofs.ClassLaws.{within_yes, within_low, within_high, run_short, run_long, run_all}
 
 -- Classes of bytes
@@ -78,30 +76,7 @@ module _ (b : ℕ) where
     unfolding lot_byte
     lot_no h = simp (← e, h)
 
-  module _ (c : ℕ) (x : Bool) where
-    pub class_1 : c ≡ 1 → x ≡ is_digit b → x ≡ in_class c b
-    unfolding in_class
-    class_1 e h = rw e h
-
-    pub class_2 : c ≡ 2 → x ≡ is_letter b → x ≡ in_class c b
-    unfolding in_class
-    class_2 e h = rw e h
-
-    pub class_3 : c ≡ 3 → x ≡ is_letter_or_digit b → x ≡ in_class c b
-    unfolding in_class
-    class_3 e h = rw e h
-
-    pub class_4 : c ≡ 4 → x ≡ lot_byte b → x ≡ in_class c b
-    unfolding in_class
-    class_4 e h = rw e h
-
-    pub class_5 : (c ≡ 1 → ⊥) → (c ≡ 2 → ⊥) → (c ≡ 3 → ⊥) → (c ≡ 4 → ⊥) → x ≡ is_graphic b → x ≡ in_class c b
-    unfolding in_class
-    class_5 n1 n2 n3 n4 h = simp (ne_eqb _ _ n1, ne_eqb _ _ n2, ne_eqb _ _ n3, ne_eqb _ _ n4) h
-
 pub ruleset for_byte = (rules, digit_yes, digit_low, digit_high, graphic_yes, graphic_low, graphic_high, letter_upper, letter_lower, letter_low, letter_mid, letter_high, either_yes, either_no, lot_yes, lot_no)
-
-pub ruleset for_class = (rules, class_1, class_2, class_3, class_4, class_5)
 
 -- all_in
 module _ (p : ℕ → Bool) (t : Text) (i : ℕ) (x : Bool) where

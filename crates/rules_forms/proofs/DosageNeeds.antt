@@ -12,7 +12,6 @@ use lib.ListN.{length, get_or, take, drop}
 use Rattle.house.specs.Text.{Text, any, front, after_front, within, run, is_digit}
 use Rattle.house.proofs.Suffix.{drop_here, drop_past, rest}
 use Rattle.rules_definitions.specs.Forms.{is_fraction, is_dosage}
-use Rattle.rules_forms.specs.Classes.{in_class}
 use Rattle.rules_forms.proofs.ClassLaws.{within_yes, within_low, within_high}
 use Rattle.rules_forms.specs.TextLeaves.{digits_len}
 
@@ -90,8 +89,8 @@ unfolding is_fraction
 fraction_other [] h n = absurd (h refl)
 fraction_other (b ∷ t) h n = rw (ne_eqb b 46 n)
 
-pub fraction_point : (t : Text) (x : Bool) → (length t ≡ 0 → ⊥) → get_or t 0 0 ≡ 46 → x ≡ run 1 2 (in_class 1) (take (length t - 1) (drop 1 t)) → x ≡ is_fraction t
-unfolding is_fraction in_class
+pub fraction_point : (t : Text) (x : Bool) → (length t ≡ 0 → ⊥) → get_or t 0 0 ≡ 46 → x ≡ run 1 2 is_digit (take (length t - 1) (drop 1 t)) → x ≡ is_fraction t
+unfolding is_fraction
 fraction_point [] x h n e = absurd (h refl)
 fraction_point (b ∷ t) x h n e = rw n (e ∙ ap (λ (s : Text). run 1 2 is_digit s) (rest (b ∷ t) 1))
 

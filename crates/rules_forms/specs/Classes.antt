@@ -1,10 +1,7 @@
--- Working definitions: the classes of bytes, as the functions on runs number them. No public contract rests on this page.
+-- Working definition: what the test of a class, which the functions on runs take, computes. No public contract rests on this page.
 -- Assumes nothing.
-use Rattle.std.specs.Prelude.{ℕ, Bool, cond, eqb}
-use Rattle.house.specs.Text.{is_digit, is_letter, is_letter_or_digit, is_graphic}
-use Rattle.rules_definitions.specs.Forms.{lot_byte}
+use Rattle.std.specs.Prelude.{ℕ, Bool, ◌≡◌}
 
--- Digits, letters, letters or digits, those or dashes, and what shows
-unfoldable pub in_class : ℕ → ℕ → Bool
-in_class c b =
-    cond (eqb c 1) (is_digit b) (cond (eqb c 2) (is_letter b) (cond (eqb c 3) (is_letter_or_digit b) (cond (eqb c 4) (lot_byte b) (is_graphic b))))
+-- the test gives of each byte what p gives
+abbrev pub Computes : (ℕ → Bool → Type 0) → (ℕ → Bool) → Type 0
+Computes post p = (b : ℕ) (x : Bool) → post b x → x ≡ p b

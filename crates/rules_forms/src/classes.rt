@@ -1,19 +1,8 @@
 // The classes of bytes: whether a byte, each byte of a text, or so many bytes, are of one.
-ghost use Rattle.std.specs.Prelude.{◌≡◌};
+ghost use Rattle.std.specs.Prelude.{◌≡◌, ℕ, Bool};
 ghost use Rattle.house.specs.Text.{all, run, is_digit, is_letter, is_letter_or_digit, is_graphic};
 ghost use Rattle.rules_definitions.specs.Forms.{lot_byte};
-ghost use Rattle.rules_forms.specs.Classes.{in_class};
-
-// The classes of bytes.
-pub(crate) const DIGITS: u8 = 1;
-
-pub(crate) const LETTERS: u8 = 2;
-
-pub(crate) const LETTERS_DIGITS: u8 = 3;
-
-pub(crate) const LOT_BYTES: u8 = 4;
-
-pub(crate) const GRAPHIC: u8 = 5;
+ghost use Rattle.rules_forms.specs.Classes.{Computes};
 
 // Whether a byte is a digit.
 pub(crate) fn is_digit(b: u8) -> bool
@@ -25,7 +14,7 @@ pub(crate) fn is_digit(b: u8) -> bool
     }
 }
 
-fn is_letter(b: u8) -> bool
+pub(crate) fn is_letter(b: u8) -> bool
     ensures { result ≡ is_letter b }
 {
     match b {
@@ -35,14 +24,14 @@ fn is_letter(b: u8) -> bool
     }
 }
 
-fn is_letter_or_digit(b: u8) -> bool
+pub(crate) fn is_letter_or_digit(b: u8) -> bool
     ensures { result ≡ is_letter_or_digit b }
 {
     if is_letter(b) { true } else { is_digit(b) }
 }
 
 // Letters, digits and dashes.
-fn is_lot_byte(b: u8) -> bool
+pub(crate) fn is_lot_byte(b: u8) -> bool
     ensures { result ≡ lot_byte b }
 {
     if is_letter_or_digit(b) {
@@ -53,7 +42,7 @@ fn is_lot_byte(b: u8) -> bool
 }
 
 // A byte that shows and is no blank.
-fn is_graphic(b: u8) -> bool
+pub(crate) fn is_graphic(b: u8) -> bool
     ensures { result ≡ is_graphic b }
 {
     match b {
@@ -62,37 +51,24 @@ fn is_graphic(b: u8) -> bool
     }
 }
 
-// Whether a byte is of a class.
-fn in_class(class: u8, b: u8) -> bool
-    ensures { result ≡ in_class class b }
+// Whether each byte of a text is of a class, by its test.
+pub(crate) fn all_in<F: Fn(u8) -> bool>(t: &[u8], test: F) -> bool
+    requires { F.IsAlwaysCallable test }
+    ensures { (p : ℕ → Bool) → Computes (F.post test) p → result ≡ all p t.now }
 {
-    match class {
-        DIGITS => is_digit(b),
-        LETTERS => is_letter(b),
-        LETTERS_DIGITS => is_letter_or_digit(b),
-        LOT_BYTES => is_lot_byte(b),
-        _ => is_graphic(b),
-    }
-}
-
-// Whether each byte of a text is of a class.
-pub(crate) fn all_in(t: &[u8], class: u8) -> bool
-    ensures { result ≡ all (in_class class) t.now }
-{
-    let mut i = 0;
-    while i < t.len() {
-        if in_class(class, t[i]) {
-            i += 1;
-        } else {
-            return false;
+    for b in t {
+        if test(*b) {
+            continue;
         }
+        return false;
     }
     true
 }
 
-// Whether a text has from lo to hi bytes, each of a class.
-pub(crate) fn run_in(t: &[u8], lo: usize, hi: usize, class: u8) -> bool
-    ensures { result ≡ run lo hi (in_class class) t.now }
+// Whether a text has from lo to hi bytes, each of a class, by its test.
+pub(crate) fn run_in<F: Fn(u8) -> bool>(t: &[u8], lo: usize, hi: usize, test: F) -> bool
+    requires { F.IsAlwaysCallable test }
+    ensures { (p : ℕ → Bool) → Computes (F.post test) p → result ≡ run lo hi p t.now }
 {
     if t.len() < lo {
         return false;
@@ -100,5 +76,5 @@ pub(crate) fn run_in(t: &[u8], lo: usize, hi: usize, class: u8) -> bool
     if hi < t.len() {
         return false;
     }
-    all_in(t, class)
+    all_in(t, test)
 }

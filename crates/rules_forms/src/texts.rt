@@ -5,7 +5,9 @@ ghost use Rattle.dates.specs.Dates.{is_date};
 ghost use Rattle.rules_definitions.specs.Forms.{is_prefix, is_batch, is_total, count_form, is_number, is_uli, is_type, is_historical, is_code, is_site_text, is_method_text, is_reason, is_fraction, is_dosage, is_dosage_type, is_manufacturer, is_lot, is_count, is_reason_not, is_organization, is_grade};
 ghost use Rattle.rules_forms.specs.TextLeaves.{value_of, digits_len};
 
-use crate::classes::{DIGITS, GRAPHIC, LETTERS, LETTERS_DIGITS, LOT_BYTES};
+use crate::classes::{
+    all_in, is_digit, is_graphic, is_letter, is_letter_or_digit, is_lot_byte, run_in,
+};
 
 // The number that 1 to 9 digits write; 0 for any other text.
 pub fn value(t: &[u8]) -> u32
@@ -15,12 +17,10 @@ pub fn value(t: &[u8]) -> u32
         return 0;
     }
     let mut v: u32 = 0;
-    let mut i = 0;
-    while i < t.len() {
-        if crate::classes::is_digit(t[i]) {
-            let d = (t[i] - 48) as u32;
+    for b in t {
+        if is_digit(*b) {
+            let d = (*b - b'0') as u32;
             v = v * 10 + d;
-            i += 1;
         } else {
             return 0;
         }
@@ -40,27 +40,31 @@ fn is_positive(t: &[u8], most: usize) -> bool
 }
 
 // IH 2: 1 to 3 letters or digits.
+#[tactic(auto, unfolding(rules_definitions::specs::Forms::is_prefix))]
 pub fn is_prefix(t: &[u8]) -> bool
     ensures { result ≡ is_prefix t.now }
 {
-    crate::classes::run_in(t, 1, 3, LETTERS_DIGITS)
+    run_in(t, 1, 3, is_letter_or_digit)
 }
 
 // IH 3: 1 to 10 letters or digits.
+#[tactic(auto, unfolding(rules_definitions::specs::Forms::is_batch))]
 pub fn is_batch(t: &[u8]) -> bool
     ensures { result ≡ is_batch t.now }
 {
-    crate::classes::run_in(t, 1, 10, LETTERS_DIGITS)
+    run_in(t, 1, 10, is_letter_or_digit)
 }
 
 // IF 2: 1 to 10 digits.
+#[tactic(auto, unfolding(rules_definitions::specs::Forms::is_total))]
 pub(crate) fn is_total(t: &[u8]) -> bool
     ensures { result ≡ is_total t.now }
 {
-    crate::classes::run_in(t, 1, 10, DIGITS)
+    run_in(t, 1, 10, is_digit)
 }
 
 // Field 2 of IP, II, IE, IN, IA: 1 to 5 digits, at least 1.
+#[tactic(auto, unfolding(rules_definitions::specs::Forms::is_number))]
 pub(crate) fn is_number(t: &[u8]) -> bool
     ensures { result ≡ is_number t.now }
 {
@@ -83,8 +87,8 @@ pub fn is_date(t: &[u8]) -> bool
 {
     let d = dates::Date::of(t);
     match d {
-        dates::Dated::Day(_) => true,
-        dates::Dated::NoDate => false,
+        Some(_) => true,
+        None => false,
     }
 }
 
@@ -105,6 +109,7 @@ pub fn is_type(t: &[u8]) -> bool
 }
 
 // II 5: H.
+#[tactic(auto, unfolding(rules_definitions::specs::Forms::is_historical))]
 pub fn is_historical(t: &[u8]) -> bool
     ensures { result ≡ is_historical t.now }
 {
@@ -112,24 +117,27 @@ pub fn is_historical(t: &[u8]) -> bool
 }
 
 // II 8, IE 4, IA 4: 1 to 20 bytes in 33..126.
+#[tactic(auto, unfolding(rules_definitions::specs::Forms::is_code))]
 pub fn is_code(t: &[u8]) -> bool
     ensures { result ≡ is_code t.now }
 {
-    crate::classes::run_in(t, 1, 20, GRAPHIC)
+    run_in(t, 1, 20, is_graphic)
 }
 
 // II 9: 1 to 4 letters.
+#[tactic(auto, unfolding(rules_definitions::specs::Forms::is_site_text))]
 pub(crate) fn is_site_text(t: &[u8]) -> bool
     ensures { result ≡ is_site_text t.now }
 {
-    crate::classes::run_in(t, 1, 4, LETTERS)
+    run_in(t, 1, 4, is_letter)
 }
 
 // II 10: 1 to 3 letters.
+#[tactic(auto, unfolding(rules_definitions::specs::Forms::is_method_text))]
 pub(crate) fn is_method_text(t: &[u8]) -> bool
     ensures { result ≡ is_method_text t.now }
 {
-    crate::classes::run_in(t, 1, 3, LETTERS)
+    run_in(t, 1, 3, is_letter)
 }
 
 // II 11: one or two digits, or a blank and a digit.
@@ -137,15 +145,15 @@ pub(crate) fn is_reason(t: &[u8]) -> bool
     ensures { result ≡ is_reason t.now }
 {
     if t.len() == 1 {
-        return crate::classes::is_digit(t[0]);
+        return is_digit(t[0]);
     }
     if t.len() != 2 {
         return false;
     }
     if t[0] == b' ' {
-        return crate::classes::is_digit(t[1]);
+        return is_digit(t[1]);
     }
-    crate::classes::all_in(t, DIGITS)
+    all_in(t, is_digit)
 }
 
 // How many digits a text starts with.
@@ -153,15 +161,13 @@ fn digits_len(t: &[u8]) -> usize
     ensures value { result ≡ digits_len t.now }
     ensures upper_bound { result ≤ length t.now }
 {
-    let mut i = 0;
-    while i < t.len() {
-        if crate::classes::is_digit(t[i]) {
-            i += 1;
-        } else {
-            return i;
+    for (i, b) in t.iter().enumerate() {
+        if is_digit(*b) {
+            continue;
         }
+        return i;
     }
-    i
+    t.len()
 }
 
 // Nothing, or a point and one or two digits.
@@ -174,7 +180,7 @@ fn is_fraction(t: &[u8]) -> bool
     if t[0] != b'.' {
         return false;
     }
-    crate::classes::run_in(&t[1..], 1, 2, DIGITS)
+    run_in(&t[1..], 1, 2, is_digit)
 }
 
 // A digit that is not 0.
@@ -191,12 +197,10 @@ fn is_above_zero(b: u8) -> bool
 fn any_above_zero(t: &[u8]) -> bool
     ensures { result ≡ any (within 49 57) t.now }
 {
-    let mut i = 0;
-    while i < t.len() {
-        if is_above_zero(t[i]) {
+    for b in t {
+        if is_above_zero(*b) {
             return true;
         }
-        i += 1;
     }
     false
 }
@@ -220,27 +224,31 @@ pub(crate) fn is_dosage(t: &[u8]) -> bool
 }
 
 // II 13: 1 to 4 letters.
+#[tactic(auto, unfolding(rules_definitions::specs::Forms::is_dosage_type))]
 pub(crate) fn is_dosage_type(t: &[u8]) -> bool
     ensures { result ≡ is_dosage_type t.now }
 {
-    crate::classes::run_in(t, 1, 4, LETTERS)
+    run_in(t, 1, 4, is_letter)
 }
 
 // II 14: 1 to 3 letters.
+#[tactic(auto, unfolding(rules_definitions::specs::Forms::is_manufacturer))]
 pub(crate) fn is_manufacturer(t: &[u8]) -> bool
     ensures { result ≡ is_manufacturer t.now }
 {
-    crate::classes::run_in(t, 1, 3, LETTERS)
+    run_in(t, 1, 3, is_letter)
 }
 
 // II 15: 1 to 20 letters, digits or dashes.
+#[tactic(auto, unfolding(rules_definitions::specs::Forms::is_lot))]
 pub(crate) fn is_lot(t: &[u8]) -> bool
     ensures { result ≡ is_lot t.now }
 {
-    crate::classes::run_in(t, 1, 20, LOT_BYTES)
+    run_in(t, 1, 20, is_lot_byte)
 }
 
 // IE 5: 1 or 2 digits, at least 1.
+#[tactic(auto, unfolding(rules_definitions::specs::Forms::is_count))]
 pub fn is_count(t: &[u8]) -> bool
     ensures { result ≡ is_count t.now }
 {
@@ -248,22 +256,25 @@ pub fn is_count(t: &[u8]) -> bool
 }
 
 // IN 6: 1 to 3 letters.
+#[tactic(auto, unfolding(rules_definitions::specs::Forms::is_reason_not))]
 pub(crate) fn is_reason_not(t: &[u8]) -> bool
     ensures { result ≡ is_reason_not t.now }
 {
-    crate::classes::run_in(t, 1, 3, LETTERS)
+    run_in(t, 1, 3, is_letter)
 }
 
 // IN 7: 1 to 4 digits.
+#[tactic(auto, unfolding(rules_definitions::specs::Forms::is_organization))]
 pub(crate) fn is_organization(t: &[u8]) -> bool
     ensures { result ≡ is_organization t.now }
 {
-    crate::classes::run_in(t, 1, 4, DIGITS)
+    run_in(t, 1, 4, is_digit)
 }
 
 // IN 8: 1 or 2 letters or digits.
+#[tactic(auto, unfolding(rules_definitions::specs::Forms::is_grade))]
 pub(crate) fn is_grade(t: &[u8]) -> bool
     ensures { result ≡ is_grade t.now }
 {
-    crate::classes::run_in(t, 1, 2, LETTERS_DIGITS)
+    run_in(t, 1, 2, is_letter_or_digit)
 }

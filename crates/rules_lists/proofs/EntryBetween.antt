@@ -16,7 +16,7 @@ use Rattle.lines_fields.proofs.LineLaws.{line_is}
 use Rattle.lines_words.specs.Words.{place_bound, word_at, key_at}
 use Rattle.lines.specs.Records.{II, IE, is_kind, rec_of}
 use Rattle.lines.proofs.PartLaws.{ended_inside}
-use Rattle.rules_definitions.specs.Forms.{text, is_sound}
+use Rattle.rules_definitions.specs.Forms.{is_sound}
 use Rattle.rules_definitions.specs.Rules.{dose_of}
 use Rattle.rules_lists.specs.Entries.{antigens, counted_antigens, antigen_entry, lot_start, lot_entry, entry_of}
 use Rattle.rules_lists.proofs.EntryWalk.{any_append, same_line, line_from, next_from, entries_ahead, entries_past, entries_step, no_lines}

@@ -27,10 +27,9 @@ use Rattle.rules_definitions.specs.Rules.{dose_of}
 use Rattle.rules_forms.specs.FieldLeaves.{sound_in}
 use Rattle.rules_forms.proofs.ClassLaws.{run_parts, run_most}
 use Rattle.rules_forms.proofs.FieldLaws.{text_is, kind_is, empty_true, empty_false, sound_in_lem}
-use Rattle.rules_lists.specs.declared.entries.Entry.{Entry}
 use Rattle.rules_lists.specs.Among.{dose_in}
 use Rattle.rules_lists.specs.Entries.{antigen_entry, lot_start, lot_entry, entry_of, entries_from, entries_in}
-use Rattle.rules_lists.specs.Inside.{listed}
+use Rattle.std.specs.Prelude.{Option, Some, None, option_to_list}
 use Rattle.rules_lists.proofs.ListNeeds.{antigen_sound}
 
 -- count_of: a count has one or two digits
@@ -86,12 +85,12 @@ module _ (l : Text) (at f a : ℕ) (h : at + length l ≤ 8388608) (d : a ≡ fi
   entry_fits n k = omega (arith, start_within l f a d)
 
 module _ (l u : Text) (d : u ≡ judged_of l 4) (x : Bool) (e : x ≡ sound_in 5 false 4 u) (c at : ℕ) where
-  pub antigen_none : x ≡ false → listed (record { is = false; number = 0 }) ≡ antigen_entry c at l
-  unfolding listed antigen_entry
+  pub antigen_none : x ≡ false → option_to_list None ≡ antigen_entry c at l
+  unfolding antigen_entry
   antigen_none h = rw (antigen_sound l u d x e, h)
 
-  pub antigen_one : (n a : ℕ) → x ≡ true → n ≡ c → a ≡ fields_len 3 l → listed (record { is = true; number = n * 8388608 + (at + a) }) ≡ antigen_entry c at l
-  unfolding listed antigen_entry
+  pub antigen_one : (n a : ℕ) → x ≡ true → n ≡ c → a ≡ fields_len 3 l → option_to_list (Some (n * 8388608 + (at + a))) ≡ antigen_entry c at l
+  unfolding antigen_entry
   antigen_one n a h i j = rw (antigen_sound l u d x e, h, i, j)
 
 pub ruleset for_antigen_entry = (rules, place_wide, place_fits, entry_fits, antigen_none, antigen_one)
@@ -107,35 +106,35 @@ pub ruleset for_lot_start = (rules, start_within, start_none, start_there)
 
 -- lot_entry
 module _ (l : Text) (at k : ℕ) (d : k ≡ record_of l) where
-  pub lot_not : (k ≡ 4 → ⊥) → listed (record { is = false; number = 0 }) ≡ lot_entry at l
-  unfolding listed lot_entry
+  pub lot_not : (k ≡ 4 → ⊥) → option_to_list None ≡ lot_entry at l
+  unfolding lot_entry
   lot_not n = rw (kind_is, ← d, ne_eqb k 4 n)
 
   module _ (z : k ≡ 4) (u : Text) (f : u ≡ judged_of l 15) (x : Bool) (e : x ≡ sound_in 4 (is_relaxed (rec_of l)) 15 u) where
     lot_sound : is_sound 4 (rec_of l) 15 ≡ x
     lot_sound = sym (sound_in_lem 4 (rec_of l) 15) ∙ rw (text_is l 15, ← f) (sym e)
 
-    pub lot_unsound : x ≡ false → listed (record { is = false; number = 0 }) ≡ lot_entry at l
-    unfolding listed lot_entry
+    pub lot_unsound : x ≡ false → option_to_list None ≡ lot_entry at l
+    unfolding lot_entry
     lot_unsound h = rw (kind_is, ← d, eq-eqb k 4 z, lot_sound, h)
 
-    pub lot_one : (a : ℕ) → x ≡ true → a ≡ cond (is_empty u) (length l) (fields_len 14 l) → listed (record { is = true; number = at + a }) ≡ lot_entry at l
-    unfolding listed lot_entry lot_start
+    pub lot_one : (a : ℕ) → x ≡ true → a ≡ cond (is_empty u) (length l) (fields_len 14 l) → option_to_list (Some (at + a)) ≡ lot_entry at l
+    unfolding lot_entry lot_start
     lot_one a h i = rw (kind_is, ← d, eq-eqb k 4 z, lot_sound, h, text_is l 15, ← f, i)
 
 pub ruleset for_lot_entry = (rules, lot_not, lot_unsound, lot_one)
 
 -- entry_of
-module _ (l : Text) (at what : ℕ) (r : Entry) where
-  pub entry_antigen : what ≡ 0 → listed r ≡ antigen_entry (cond false (dose_of (rec_of l)) 0) at l → listed r ≡ entry_of what at l
+module _ (l : Text) (at what : ℕ) (r : Option ℕ) where
+  pub entry_antigen : what ≡ 0 → option_to_list r ≡ antigen_entry (cond false (dose_of (rec_of l)) 0) at l → option_to_list r ≡ entry_of what at l
   unfolding entry_of
   entry_antigen h e = rw h e
 
-  pub entry_counted : what ≡ 1 → listed r ≡ antigen_entry (cond true (dose_of (rec_of l)) 0) at l → listed r ≡ entry_of what at l
+  pub entry_counted : what ≡ 1 → option_to_list r ≡ antigen_entry (cond true (dose_of (rec_of l)) 0) at l → option_to_list r ≡ entry_of what at l
   unfolding entry_of
   entry_counted h e = rw h e
 
-  pub entry_lot : (what ≡ 0 → ⊥) → (what ≡ 1 → ⊥) → listed r ≡ lot_entry at l → listed r ≡ entry_of what at l
+  pub entry_lot : (what ≡ 0 → ⊥) → (what ≡ 1 → ⊥) → option_to_list r ≡ lot_entry at l → option_to_list r ≡ entry_of what at l
   unfolding entry_of
   entry_lot m n e = rw (ne_eqb what 0 m, ne_eqb what 1 n) e
 
@@ -252,12 +251,11 @@ module _ (f : Text) (from to what : ℕ) where
           pub gather_room : n + 1 ≤ 8388608
           gather_room = omega (arith, inv.few, inv.high)
 
-          module _ (r : Entry) (c : listed r ≡ entry_of what at (take (q.end - at) (drop at u))) where
-            first : ahead at ≡ listed r ++ ahead q.next
+          module _ (r : Option ℕ) (c : option_to_list r ≡ entry_of what at (take (q.end - at) (drop at u))) where
+            first : ahead at ≡ option_to_list r ++ ahead q.next
             first = rw (lines_on u at q is gather_here, ← c, at_next u at q is, drop-drop)
 
-            pub gather_no : r.is ≡ false → Gathering room q.next n
-            unfolding listed
+            pub gather_no : r ≡ None → Gathering room q.next n
             gather_no z =
                 let e : ahead at ≡ ahead q.next = first ∙ rw z in
                 record {
@@ -269,18 +267,17 @@ module _ (f : Text) (from to what : ℕ) where
                   written = inv.written ∙ rw e;
                 }
 
-            pub gather_yes : (new : List ℕ) → r.is ≡ true → new ≡ set room n r.number → Gathering new q.next (n + 1)
-            unfolding listed
-            gather_yes new z w =
-                let e : ahead at ≡ r.number ∷ ahead q.next = first ∙ rw z in
+            pub gather_yes : (new : List ℕ) (m : ℕ) → r ≡ Some m → new ≡ set room n m → Gathering new q.next (n + 1)
+            gather_yes new m z w =
+                let e : ahead at ≡ m ∷ ahead q.next = first ∙ rw z in
                 let l : length (ahead at) ≡ suc (length (ahead q.next)) = ap length e in
                 record {
-                  size = ap length w ∙ length-set room n r.number ∙ inv.size;
+                  size = ap length w ∙ length-set room n m ∙ inv.size;
                   few = omega (arith, inv.few, at_past u at q is gather_here);
                   long = inv.long;
                   high = inv.high;
                   count = omega (arith, inv.count);
-                  written = inv.written ∙ rw (e, w, add-one n) (over_put r.number (ahead q.next) n room);
+                  written = inv.written ∙ rw (e, w, add-one n) (over_put m (ahead q.next) n room);
                 }
 
 pub ruleset for_gather = (rules, long_count, long_written, past_count, past_written, gather_start, gather_count, gather_end, gather_size, gather_here, gather_from, gather_in, gather_falls, gather_low, gather_room, gather_no, gather_yes)

@@ -21,7 +21,7 @@ use Rattle.lines_fields.proofs.LineLaws.{left_falls}
 use Rattle.lines_fields.proofs.FieldLaws.{fields_after, fields_le}
 use Rattle.lines.proofs.PartLaws.{recs_past, recs_on}
 use Rattle.rules_definitions.specs.Forms.{text, count_form, is_count, is_relaxed, is_sound}
-use Rattle.rules_definitions.specs.Rules.{same_antigen, dose_of, same_count, all_in, counts_sound, sets_differ}
+use Rattle.rules_definitions.specs.Rules.{same_antigen, dose_of, same_count, all_in, sets_differ}
 use Rattle.rules_forms.specs.TextLeaves.{value_of}
 use Rattle.rules_forms.proofs.TextLaws.{value_run}
 use Rattle.rules_forms.specs.FieldLeaves.{relaxed_if, sound_in}
@@ -53,13 +53,7 @@ module _ (p : Rec → Bool) (s : Text) (at : ℕ) (x : Bool) where
       pub all_next : y ≡ true → x ≡ all p (recs (drop q.next s))
       all_next k = rw (inv, recs_on s at q e h, ← g, k)
 
-pub counts_start : (ls : List Rec) → counts_sound ls ≡ all sound_count ls
-unfolding counts_sound sound_count
-counts_start ls = refl
-
-pub ruleset for_any_line = (rules, any_past, any_here, any_next, left_falls)
-
-pub ruleset for_all_lines = (rules, counts_start, all_past, all_here, all_next, left_falls)
+pub ruleset for_lines = (rules, left_falls)
 
 -- has_antigen
 pub antigen_here : (l t u : Text) (x : Bool) → u ≡ judged_of l 4 → x ≡ same t u → x ≡ antigen_is t (rec_of l)

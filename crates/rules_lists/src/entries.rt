@@ -1,5 +1,5 @@
 // The entries of lines gathered: where their sound antigens or lots stand, and with an antigen how often it is given.
-ghost use Rattle.std.specs.Prelude.{◌≡◌, cond, ◌+◌, ◌≤◌, length};
+ghost use Rattle.std.specs.Prelude.{◌≡◌, cond, ◌+◌, ◌≤◌, length, option_to_list};
 ghost use Rattle.house.specs.Over.{over};
 ghost use Rattle.house.specs.Text.{is_empty};
 ghost use Rattle.lines_fields.specs.Lines.{fields_len};
@@ -7,7 +7,6 @@ ghost use Rattle.lines.specs.Records.{rec_of};
 ghost use Rattle.lines_words.specs.Words.{place_bound};
 ghost use Rattle.rules_definitions.specs.Rules.{dose_of};
 ghost use Rattle.rules_lists.specs.Entries.{antigen_entry, lot_entry, entry_of, entries_in};
-ghost use Rattle.rules_lists.specs.Inside.{listed};
 
 use crate::{dose_of, is_lot_sound};
 use lines::{IE, II};
@@ -22,13 +21,6 @@ pub const COUNTED_ANTIGENS: u8 = 1;
 
 pub const LOTS: u8 = 2;
 
-// An entry, or none.
-#[derive(Clone, Copy)]
-struct Entry {
-    is: bool,
-    number: u32,
-}
-
 // How often a line's antigen is given, 0 where that is not asked.
 fn count_of(line: &[u8], counted: bool) -> u32
     ensures value { result ≡ cond counted (dose_of (rec_of line.now)) 0 }
@@ -42,22 +34,16 @@ fn count_of(line: &[u8], counted: bool) -> u32
 }
 
 // The antigen of a line that starts at a position.
-fn antigen_entry(line: &[u8], at: usize, counted: bool) -> Entry
+fn antigen_entry(line: &[u8], at: usize, counted: bool) -> Option<u32>
     requires { at + length line.now ≤ place_bound }
-    ensures { listed result ≡ antigen_entry (cond counted (dose_of (rec_of line.now)) 0) at line.now }
+    ensures { option_to_list result ≡ antigen_entry (cond counted (dose_of (rec_of line.now)) 0) at line.now }
 {
     if sound_text(IE, false, 4, judged_of(line, 4)) {
         let count = count_of(line, counted);
         let place = at + field_start(line, 3);
-        return Entry {
-            is: true,
-            number: count * PLACE_BOUND + (place as u32),
-        };
+        return Some(count * PLACE_BOUND + (place as u32));
     }
-    Entry {
-        is: false,
-        number: 0,
-    }
+    None
 }
 
 // Where a line's lot stands in it, this being its text: an empty one stands at the line's end.
@@ -72,32 +58,26 @@ fn lot_start(line: &[u8], lot: &[u8]) -> usize
 }
 
 // The lot of a line that starts at a position, if it is an II.
-fn lot_entry(line: &[u8], at: usize) -> Entry
+fn lot_entry(line: &[u8], at: usize) -> Option<u32>
     requires { at + length line.now ≤ place_bound }
-    ensures { listed result ≡ lot_entry at line.now }
+    ensures { option_to_list result ≡ lot_entry at line.now }
 {
-    let none = Entry {
-        is: false,
-        number: 0,
-    };
     if lines::kind_of(line) != II {
-        return none;
+        return None;
     }
     let lot = judged_of(line, 15);
     if is_lot_sound(line, lot) {
         let place = at + lot_start(line, lot);
-        return Entry {
-            is: true,
-            number: place as u32,
-        };
+        return Some(place as u32);
     }
-    none
+    None
 }
 
-// What a line that starts at a position gives.
-fn entry_of(line: &[u8], at: usize, what: u8) -> Entry
+// What a line that starts at a position gives. Told by a number, and not by a function that is passed: `entries_in`, which the public clauses
+// name, takes a number.
+fn entry_of(line: &[u8], at: usize, what: u8) -> Option<u32>
     requires { at + length line.now ≤ place_bound }
-    ensures { listed result ≡ entry_of what at line.now }
+    ensures { option_to_list result ≡ entry_of what at line.now }
 {
     match what {
         ANTIGENS => antigen_entry(line, at, false),
@@ -121,13 +101,14 @@ pub fn gather(file: &[u8], from: usize, to: usize, what: u8, room: &mut [u32]) -
     let upto = &file[start..to];
     let mut at = from;
     let mut n: usize = 0;
+    // Not a `for`: the position goes on by the length of the line that it is at.
     while at < to {
         let l = lines_fields::line_at(upto, at);
         let end = l.end;
         let e = entry_of(&upto[at..end], at, what);
         at = l.next;
-        if e.is {
-            house::put(room, n, e.number);
+        if let Some(number) = e {
+            house::put(room, n, number);
             n += 1;
             continue;
         }

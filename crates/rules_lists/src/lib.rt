@@ -3,18 +3,57 @@
 
 mod entries;
 
-ghost use Rattle.std.specs.Prelude.{◌≡◌};
+ghost use Rattle.std.specs.Prelude.{◌≡◌, Bool};
+ghost use Rattle.std.specs.Fn.{FnReturnsAt};
 ghost use Rattle.house.specs.Text.{any, all, same};
-ghost use Rattle.lines.specs.Records.{II, rec_of, recs};
+ghost use Rattle.lines.specs.Records.{II, Rec, rec_of, recs};
 ghost use Rattle.rules_definitions.specs.Forms.{is_relaxed};
 ghost use Rattle.rules_forms.specs.FieldLeaves.{sound_in};
 ghost use Rattle.rules_definitions.specs.Rules.{same_count, counts_sound, sets_differ};
 ghost use Rattle.rules_lists.specs.Among.{antigen_is, lot_is, dose_in, count_is, count_in, from_antigen, in_step, sound_count};
+ghost use Rattle.rules_lists.specs.Inside.{Tests};
 
 pub use entries::{ANTIGENS, COUNTED_ANTIGENS, LOTS, gather};
 use lines::{IE, II};
 use lines_fields::{field_start, judged_of};
 use rules_forms::{is_count, relaxed, sound_text, value};
+
+// Whether one of these lines passes a test.
+fn any_line<F: Fn(&[u8]) -> bool>(text: &[u8], test: F) -> bool
+    requires { F.IsAlwaysCallable test }
+    ensures { (p : Rec → Bool) → Tests (FnReturnsAt F.Fn test) p → result ≡ any p (recs text.now) }
+{
+    let mut at = 0;
+    // Not a `for`: the position goes on by the length of the line that it is at.
+    while at < text.len() {
+        let l = lines_fields::line_at(text, at);
+        let end = l.end;
+        if test(&text[at..end]) {
+            return true;
+        }
+        at = l.next;
+    }
+    false
+}
+
+// Whether each of these lines passes a test.
+fn all_lines<F: Fn(&[u8]) -> bool>(text: &[u8], test: F) -> bool
+    requires { F.IsAlwaysCallable test }
+    ensures { (p : Rec → Bool) → Tests (FnReturnsAt F.Fn test) p → result ≡ all p (recs text.now) }
+{
+    let mut at = 0;
+    // Not a `for`: the position goes on by the length of the line that it is at.
+    while at < text.len() {
+        let l = lines_fields::line_at(text, at);
+        let end = l.end;
+        if test(&text[at..end]) {
+            at = l.next;
+        } else {
+            return false;
+        }
+    }
+    true
+}
 
 // Whether a line gives this antigen.
 fn has_antigen(line: &[u8], t: &[u8]) -> bool
@@ -27,16 +66,7 @@ fn has_antigen(line: &[u8], t: &[u8]) -> bool
 pub fn rule12_any_antigen(t: &[u8], since: &[u8]) -> bool
     ensures { result ≡ any (antigen_is t.now) (recs since.now) }
 {
-    let mut at = 0;
-    while at < since.len() {
-        let l = lines_fields::line_at(since, at);
-        let end = l.end;
-        if has_antigen(&since[at..end], t) {
-            return true;
-        }
-        at = l.next;
-    }
-    false
+    any_line(since, |line| has_antigen(line, t))
 }
 
 // Whether a line is a relaxed event.
@@ -78,16 +108,7 @@ fn has_lot(line: &[u8], t: &[u8]) -> bool
 pub fn rule14_any_lot(t: &[u8], block: &[u8]) -> bool
     ensures { result ≡ any (lot_is t.now) (recs block.now) }
 {
-    let mut at = 0;
-    while at < block.len() {
-        let l = lines_fields::line_at(block, at);
-        let end = l.end;
-        if has_lot(&block[at..end], t) {
-            return true;
-        }
-        at = l.next;
-    }
-    false
+    any_line(block, |line| has_lot(line, t))
 }
 
 // A count as a number, 0 where it is not sound.
@@ -112,16 +133,7 @@ fn has_count(line: &[u8], t: &[u8], dose: u32) -> bool
 fn any_count(t: &[u8], dose: u32, others: &[u8]) -> bool
     ensures { result ≡ any (count_is t.now dose) (recs others.now) }
 {
-    let mut at = 0;
-    while at < others.len() {
-        let l = lines_fields::line_at(others, at);
-        let end = l.end;
-        if has_count(&others[at..end], t, dose) {
-            return true;
-        }
-        at = l.next;
-    }
-    false
+    any_line(others, |line| has_count(line, t, dose))
 }
 
 // Whether one of these lines gives the line's antigen as often.
@@ -136,17 +148,7 @@ fn count_among(line: &[u8], others: &[u8]) -> bool
 fn all_counted(ps: &[u8], others: &[u8]) -> bool
     ensures { result ≡ all (count_in (recs others.now)) (recs ps.now) }
 {
-    let mut at = 0;
-    while at < ps.len() {
-        let l = lines_fields::line_at(ps, at);
-        let end = l.end;
-        if count_among(&ps[at..end], others) {
-            at = l.next;
-        } else {
-            return false;
-        }
-    }
-    true
+    all_lines(ps, |line| count_among(line, others))
 }
 
 // Whether two lines are the same from field 4 on.
@@ -175,6 +177,7 @@ pub fn rule13_in_step(own: &[u8], first: &[u8]) -> bool
 {
     let mut at = 0;
     let mut by = 0;
+    // Not a `for`: both positions go on by the lengths of the lines that they are at.
     while at < own.len() {
         if first.len() <= by {
             return false;
@@ -219,18 +222,9 @@ fn count_sound(line: &[u8]) -> bool
 }
 
 // Rule 13: whether the antigens and counts of all these lines are sound.
+#[tactic(auto, unfolding(rules_definitions::specs::Rules::counts_sound, crate::specs::Among::sound_count))]
 pub fn rule13_counts_sound(ps: &[u8]) -> bool
     ensures { result ≡ counts_sound (recs ps.now) }
 {
-    let mut at = 0;
-    while at < ps.len() {
-        let l = lines_fields::line_at(ps, at);
-        let end = l.end;
-        if count_sound(&ps[at..end]) {
-            at = l.next;
-        } else {
-            return false;
-        }
-    }
-    true
+    all_lines(ps, |line| count_sound(line))
 }

@@ -10,8 +10,6 @@ use borrow.Author.Tests.{eq-eqb, ne_eqb, eqb-true, eqb-false, lt-ltb, le-ltb, lt
 use lib.Dec.{eqb, ltb, leb}
 use lib.ListN.{length}
 use Rattle.dates.specs.declared.Date.{Date}
-use Rattle.dates.specs.declared.Dated.{Dated}
-use Rattle.dates.specs.declared.Dated.TheVariants.{Day, NoDate}
 use Rattle.house.specs.Text.{Text, is_empty, same, within, run, is_digit, number}
 use Rattle.dates.specs.Dates.{is_date, dated_of}
 use Rattle.house.proofs.Small.{clash, both}
@@ -22,6 +20,7 @@ use Rattle.rules_forms.specs.TextLeaves.{value_of}
 use Rattle.rules_forms.specs.FieldLeaves.{optional_in, lowest_in}
 use Rattle.rules_forms.proofs.ClassLaws.{within_yes, within_low, within_high, run_all, run_parts, run_least}
 use Rattle.rules_plain.specs.PlainFields.{rule7_by, rule6_by, rule8_today_by, rule8_day_by, rule8_by, rule3_by}
+use Rattle.std.proofs.Common.{Option, Some, None}
 
 -- the lowest rule: 1 or 2, or a later one where neither is broken
 module _ (k : ℕ) (x : Bool) (f : ℕ) (t : Text) (later r : ℕ) (e : r ≡ lowest_in k x f t 0) where
@@ -189,7 +188,7 @@ module _ (n today born : ℕ) where
 
 pub ruleset for_rule8_day = (rules, day_after, day_before, day_right)
 
--- ip25_birth, ii6_date, in5_date: a mandatory field whose form is a date
+-- ip25_birth, date_field: a mandatory field whose form is a date
 dated : (k f : ℕ) (t : Text) (later : ℕ) → form_of k f t ≡ is_date t → is_date t ≡ true → lowest_in k false f t later ≡ later
 unfolding lowest_in is_date
 dated k f [] later e h = clash (cc)
@@ -199,13 +198,13 @@ dated k f (b ∷ t) later e h = rw (e, h) (go (is_judged k f && not (optional_in
     go true = refl
     go false = refl
 
-module _ (t : Text) (d : Dated) (e : d ≡ dated_of t) where
-  module _ (x : Date) (h : d ≡ Day x) where
+module _ (t : Text) (d : Option Date) (e : d ≡ dated_of t) where
+  module _ (x : Date) (h : d ≡ Some x) where
     day_is : number t ≡ x.number
     unfolding dated_of
     day_is = go (is_date t) (sym e ∙ h)
       where
-        go : (b : Bool) → cond b (Day (record { number = number t })) NoDate ≡ Day x → number t ≡ x.number
+        go : (b : Bool) → cond b (Some (record { number = number t })) None ≡ Some x → number t ≡ x.number
         go true k = cc
         go false k = clash (cc)
 
@@ -228,15 +227,10 @@ module _ (t : Text) (d : Dated) (e : d ≡ dated_of t) where
         unfolding rule8_by rule8_day_by
         rule_8 = rw (is_dated_lem, day_is) (sym g)
 
-        pub ii6_day : r ≡ lowest_in II false 6 t (rule8_by t today born)
-        unfolding form_of table
-        ii6_day = sym (dated II 6 t (rule8_by t today born) refl is_dated_lem ∙ rule_8)
+        pub date_day : (k f : ℕ) → form_of k f t ≡ is_date t → r ≡ lowest_in k false f t (rule8_by t today born)
+        date_day k f p = sym (dated k f t (rule8_by t today born) p is_dated_lem ∙ rule_8)
 
-        pub in5_day : r ≡ lowest_in IN false 5 t (rule8_by t today born)
-        unfolding form_of table
-        in5_day = sym (dated IN 5 t (rule8_by t today born) refl is_dated_lem ∙ rule_8)
-
-  module _ (h : d ≡ NoDate) (today r : ℕ) where
+  module _ (h : d ≡ None) (today r : ℕ) where
     pub birth_none : r ≡ lowest_in IP false 25 t 0 → r ≡ lowest_in IP false 25 t (rule8_today_by t today)
     unfolding rule8_today_by
     birth_none q = rw (dated_false t (sym e ∙ h)) q
@@ -248,7 +242,15 @@ module _ (t : Text) (d : Dated) (e : d ≡ dated_of t) where
 
 pub ruleset for_birth = (rules, birth_after, birth_right, birth_none)
 
-pub ruleset for_date = (rules, ii6_day, in5_day, date_none)
+pub ii6_form : (t : Text) → form_of II 6 t ≡ is_date t
+unfolding form_of table
+ii6_form t = refl
+
+pub in5_form : (t : Text) → form_of IN 5 t ≡ is_date t
+unfolding form_of table
+in5_form t = refl
+
+pub ruleset for_date = (rules, date_day, date_none)
 
 -- rule3_version
 module _ (t : Text) (x : Bool) (e : x ≡ same t (55 ∷ 46 ∷ 50 ∷ [])) where

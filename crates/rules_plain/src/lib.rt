@@ -3,7 +3,9 @@
 
 ghost use Rattle.std.specs.Prelude.{false, ◌&&◌, ◌≡◌, ltb, leb, length};
 ghost use Rattle.house.specs.Text.{within};
+ghost use Rattle.dates.specs.Dates.{is_date};
 ghost use Rattle.lines.specs.Records.{IV, IP, II, IN, IA};
+ghost use Rattle.rules_definitions.specs.Forms.{form_of};
 ghost use Rattle.rules_forms.specs.TextLeaves.{value_of};
 ghost use Rattle.rules_forms.specs.FieldLeaves.{lowest_in};
 ghost use Rattle.rules_plain.specs.PlainFields.{rule7_by, rule6_by, rule8_today_by, rule8_day_by, rule8_by, rule3_by, rule14_by};
@@ -90,8 +92,8 @@ pub fn ip25_birth(t: &[u8], today: u32) -> u8
 {
     let d = dates::Date::of(t);
     match d {
-        dates::Dated::Day(day) => { if today < day.number { 8 } else { 0 } }
-        dates::Dated::NoDate => rules1_and_2(IP, false, 25, t),
+        Some(day) => { if today < day.number { 8 } else { 0 } }
+        None => rules1_and_2(IP, false, 25, t),
     }
 }
 
@@ -105,26 +107,30 @@ fn rule8_day(n: u32, today: u32, born: u32) -> u8
     if n < born { 8 } else { 0 }
 }
 
+// A field that is a date, mandatory and on which rule 8 is placed: rules 1, 2 and 8.
+fn date_field(kind: u8, f: usize, t: &[u8], today: u32, born: u32) -> u8
+    requires { form_of kind f t.now ≡ is_date t.now }
+    ensures { result ≡ lowest_in kind false f t.now (rule8_by t.now today born) }
+{
+    let d = dates::Date::of(t);
+    match d {
+        Some(day) => rule8_day(day.number, today, born),
+        None => rules1_and_2(kind, false, f, t),
+    }
+}
+
 // II 6: rules 1, 2 and 8.
 pub fn ii6_date(t: &[u8], today: u32, born: u32) -> u8
     ensures { result ≡ lowest_in II false 6 t.now (rule8_by t.now today born) }
 {
-    let d = dates::Date::of(t);
-    match d {
-        dates::Dated::Day(day) => rule8_day(day.number, today, born),
-        dates::Dated::NoDate => rules1_and_2(II, false, 6, t),
-    }
+    date_field(II, 6, t, today, born)
 }
 
 // IN 5: rules 1, 2 and 8.
 pub fn in5_date(t: &[u8], today: u32, born: u32) -> u8
     ensures { result ≡ lowest_in IN false 5 t.now (rule8_by t.now today born) }
 {
-    let d = dates::Date::of(t);
-    match d {
-        dates::Dated::Day(day) => rule8_day(day.number, today, born),
-        dates::Dated::NoDate => rules1_and_2(IN, false, 5, t),
-    }
+    date_field(IN, 5, t, today, born)
 }
 
 // Rule 3, of a version.

@@ -12,8 +12,8 @@ use lib.Seq.{take_at, drop_at, length-take-le}
 use Rattle.house.specs.Text.{Text}
 use Rattle.lines_places.specs.Events.{events_at, ascends}
 use Rattle.lines_places.specs.Sorted.{can_sort, sorted_at, sorted_apart}
-use Rattle.rules_walk.specs.declared.Built.TheVariants.{Blocks, TooMany}
-use Rattle.rules_walk.specs.Firsts.{firsts_of, index_of, can_build, built_in, can_sort_front, front_of, front_in}
+use Rattle.std.proofs.Common.{Some, None}
+use Rattle.rules_walk.specs.Firsts.{firsts_of, index_of, can_build, built, built_in, can_sort_front, front_of, front_in}
 use Rattle.house.specs.Over.{over}
 use Rattle.house.proofs.OverLaws.{over_front, length_over}
 use Rattle.rules_walk.proofs.CountLaws.{index_size}
@@ -33,7 +33,7 @@ module _ (f : Text) (area : List ℕ) (n : ℕ) where
   unfolding can_sort_front
   many h = rw (lt-leb n 96154 h)
 
-  pub many_none : 96154 < n → TooMany ≡ front_of f area n
+  pub many_none : 96154 < n → None ≡ front_of f area n
   unfolding front_of
   many_none h = rw (many h)
 
@@ -46,7 +46,7 @@ module _ (f : Text) (area : List ℕ) (n : ℕ) where
     unfolding can_sort_front
     short h = rw (le-leb n 96154 l, lt-leb n (length area) h)
 
-    pub short_none : length area < n → TooMany ≡ front_of f area n
+    pub short_none : length area < n → None ≡ front_of f area n
     unfolding front_of
     short_none h = rw (short h)
 
@@ -59,7 +59,7 @@ module _ (f : Text) (area : List ℕ) (n : ℕ) where
       unfolding can_sort_front
       can = rw (le-leb n 96154 l, le-leb n (length area) h)
 
-      pub front_is : (d : Bool) → d ≡ sorted_apart f (take n area) → Blocks n d ≡ front_of f area n
+      pub front_is : (d : Bool) → d ≡ sorted_apart f (take n area) → Some (built n d) ≡ front_of f area n
       unfolding front_of
       front_is d e = rw (can, e)
 
@@ -103,14 +103,14 @@ module _ (f : Text) (old : List ℕ) (h : length f ≤ 5000000) (n : ℕ) (e : n
     sorted_size : length (index_of f) ≡ n
     sorted_size = index_size f ∙ sym e
 
-    built : built_in f old ≡ over (index_of f) old
+    is_built : built_in f old ≡ over (index_of f) old
     unfolding built_in
-    built = rw (can_same, z)
+    is_built = rw (can_same, z)
 
     pub index_built : sorted_at f (take n new) ++ drop n new ≡ built_in f old
     index_built =
         ap₂ (λ (x y : List ℕ). x ++ y) (ap (sorted_at f) front ∙ sorted) back
-        ∙ sym (built ∙ over_front (index_of f) old (omega (arith, sorted_size, new_size)) ∙ rw sorted_size)
+        ∙ sym (is_built ∙ over_front (index_of f) old (omega (arith, sorted_size, new_size)) ∙ rw sorted_size)
 
     pub index_front : take n (sorted_at f (take n new) ++ drop n new) ≡ index_of f
     index_front = ap (λ (x : List ℕ). take n (sorted_at f x ++ drop n new)) front ∙ ap (λ (x : List ℕ). take n (x ++ drop n new)) sorted ∙ take_at (index_of f) (drop n new) n sorted_size

@@ -7,6 +7,7 @@ use Prim.Native.Nat.{ℕ}
 use lib.ListN.{length}
 use Rattle.house.specs.Text.{Text}
 use Rattle.rules_walk.specs.declared.Built.{Built}
+use Rattle.std.proofs.Common.{Option}
 use Rattle.house.specs.Over.{over}
 use Rattle.rules_walk.specs.Firsts.{sound_four, front_of, front_in, part_of}
 use Rattle.rules_walk.specs.Repeats.{repeats_in, is_noted, note_all}
@@ -18,7 +19,7 @@ one e f = e ∙ sym f
 two : {A : Type 0} {x r q : A} {z s t : List ℕ} → (r ≡ x) × (s ≡ z) → (q ≡ x) × (t ≡ z) → (r ≡ q) × (s ≡ t)
 two e g = (one e.0 g.0, one e.1 g.1)
 
-sort_index : (f : Text) (area : List ℕ) (n : ℕ) (r q : Built) (s t : List ℕ) → (r ≡ front_of f area n) × (s ≡ front_in f area n) → (q ≡ front_of f area n) × (t ≡ front_in f area n)
+sort_index : (f : Text) (area : List ℕ) (n : ℕ) (r q : Option Built) (s t : List ℕ) → (r ≡ front_of f area n) × (s ≡ front_in f area n) → (q ≡ front_of f area n) × (t ≡ front_in f area n)
     → (r ≡ q) × (s ≡ t)
 sort_index f area n r q s t = two
 

@@ -9,7 +9,9 @@ use native.Mathlib.Omega.{arith}
 use borrow.Author.Rules.{rules}
 use lib.ListN.{length, get_or, take, drop, set, length-set, take-append-drop}
 use lib.Seq.{drop-set-lt}
-use Rattle.house.specs.Text.{Text, same}
+use Rattle.std.specs.Prelude.{count_by}
+use Rattle.std.proofs.lemmas.List.Recursion.{is_count_by}
+use Rattle.house.specs.Text.{Text, same, those}
 use Rattle.house.specs.Over.{over}
 use Rattle.house.proofs.Suffix.{drop_here, drop_past}
 use Rattle.lines_fields.specs.declared.LineAt.{LineAt}
@@ -89,12 +91,17 @@ module _ (f : Text) (letter : ℕ) (ps out₀ : List ℕ) where
 
 pub ruleset for_part_of = (rules, part_start, part_count, part_end, part_no, part_yes)
 
--- count_of writes nothing
-pub count_yes : (f : Text) (letter : ℕ) (ps : List ℕ) (i n : ℕ) → Parting f letter ps [] [] i n → i < length ps → (r : Bool) → r ≡ is_typed f letter (get_or ps i 0) → r ≡ true
-    → Parting f letter ps [] [] (i + 1) (n + 1)
-count_yes f letter ps i n inv h r c z = part_yes f letter ps [] [] i n inv h r c [] z refl
+-- count_of
+those_count : (p : ℕ → Bool) (ps : List ℕ) → length (those p ps) ≡ count_by p ps
+those_count p ps = is_count_by (λ (xs : List ℕ). length (those p xs)) p refl (λ x xs. go (p x) x xs) ps
+  where
+    go : (b : Bool) (x : ℕ) (xs : List ℕ) → length (cond b (x ∷ those p xs) (those p xs)) ≡ cond b (1 + length (those p xs)) (length (those p xs))
+    go true x xs = omega arith
+    go false x xs = refl
 
-pub ruleset for_count_of = (rules, part_start, part_count, part_no, count_yes)
+pub count_is : (f : Text) (letter : ℕ) (ps : List ℕ) (n : ℕ) → n ≡ count_by (is_typed f letter) ps → n ≡ length (part_of f letter ps)
+unfolding part_of
+count_is f letter ps n e = e ∙ sym (those_count (is_typed f letter) ps)
 
 -- keep writes over places that it has passed
 module _ (f : Text) (letter : ℕ) (ps₀ : List ℕ) where

@@ -56,15 +56,10 @@ module _ (f : Text) (p at : ℕ) (last key : Text) (i : at ≡ p) (e : key ≡ e
 pub ruleset for_note_again = (rules, again_key, again_noted)
 
 -- note_repeats: the first place, a place and those after it
-none_repeats : (f : Text) (ps : List ℕ) → length ps ≡ 0 → repeats_in f ps ≡ []
-unfolding repeats_in
-none_repeats f [] h = refl
-none_repeats f (p ∷ ps) h = absurd (omega arith)
-
-first_repeats : (f : Text) (ps : List ℕ) → (length ps ≡ 0 → ⊥) → repeats_in f ps ≡ repeats_after f (event_at f (get_or ps 0 0)) (drop 1 ps)
-unfolding repeats_in
-first_repeats f [] n = absurd (n refl)
-first_repeats f (p ∷ ps) n = refl
+pub none_repeats : (f : Text) (ps : List ℕ) (table : Text) → length ps ≡ 0 → table ≡ note_all (repeats_in f ps) table
+unfolding repeats_in note_all
+none_repeats f [] table h = refl
+none_repeats f (p ∷ ps) table h = absurd (omega arith)
 
 past_repeats : (f e : Text) (ps : List ℕ) (i : ℕ) → length ps ≤ i → repeats_after f e (drop i ps) ≡ []
 unfolding repeats_after
@@ -89,27 +84,21 @@ pub length_note : (table : Text) (p : ℕ) → length (note_at table p) ≡ leng
 unfolding note_at
 length_note table p = length-set table (p / 16) 1
 
--- what is still to be noted of the places from i on, the event before being e
-module _ (f : Text) (ps : List ℕ) (table₀ : Text) where
+-- what is still to be noted of the places ps after the first one, of which i are passed, the event before being e
+module _ (f : Text) (all ps : List ℕ) (table₀ : Text) where
   pub record Noting (table : Text) (i : ℕ) (e : Text) : Type 0 where
     pub size : length table ≡ length table₀
-    pub left : note_all (repeats_in f ps) table₀ ≡ note_all (repeats_after f e (drop i ps)) table
+    pub left : note_all (repeats_in f all) table₀ ≡ note_all (repeats_after f e (drop i ps)) table
 
-  pub noting_none : length ps ≡ 0 → table₀ ≡ note_all (repeats_in f ps) table₀
-  noting_none h = sym (ap (λ (l : List ℕ). note_all l table₀) (none_repeats f ps h) ∙ none_noted table₀)
-
-  pub noting_start : (at : ℕ) (e : Text) → (length ps ≡ 0 → ⊥) → at ≡ get_or ps 0 0 → e ≡ event_at f at → Noting table₀ 1 e
-  noting_start at e n i k =
-      record {
-        size = refl;
-        left = ap (λ (l : List ℕ). note_all l table₀) (first_repeats f ps n) ∙ rw (k, i);
-      }
+  pub noting_start : (p at : ℕ) (e : Text) → all ≡ p ∷ ps → at ≡ p → e ≡ event_at f at → Noting table₀ 0 e
+  unfolding repeats_in
+  noting_start p at e h i k = record { size = refl; left = rw (h, k, i) }
 
   module _ (table : Text) (i : ℕ) (e : Text) (inv : Noting table i e) where
     pub noting_size : length table ≡ length table₀
     noting_size = inv.size
 
-    pub noting_end : length ps ≤ i → table ≡ note_all (repeats_in f ps) table₀
+    pub noting_end : length ps ≤ i → table ≡ note_all (repeats_in f all) table₀
     noting_end h = sym (inv.left ∙ ap (λ (l : List ℕ). note_all l table) (past_repeats f e ps i h) ∙ none_noted table)
 
     pub noting_on : i < length ps → (k : Text) (new : Text) → k ≡ event_at f (get_or ps i 0) → new ≡ cond (same e k) (note_at table (get_or ps i 0)) table → Noting new (i + 1) k
@@ -125,4 +114,4 @@ module _ (f : Text) (ps : List ℕ) (table₀ : Text) where
         go true = length_note table (get_or ps i 0)
         go false = refl
 
-pub ruleset for_note_repeats = (rules, noting_none, noting_start, noting_size, noting_end, noting_on)
+pub ruleset for_note_repeats = (rules, none_repeats, noting_start, noting_size, noting_end, noting_on)

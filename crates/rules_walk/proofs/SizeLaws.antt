@@ -10,7 +10,7 @@ use lib.Dec.{T, eqb}
 use lib.ListN.{length, get_or, drop, length-drop, length-map}
 use Rattle.house.specs.Text.{Text, those, is_empty}
 use Rattle.house.proofs.Small.{clash}
-use Rattle.lines.specs.declared.Shape.TheVariants.{Right}
+use Rattle.std.proofs.Common.{Ok}
 use Rattle.lines_fields.specs.Lines.{pipe, ending_of, lines_of, line_of, text_len, line_len, lengthen, fields_of}
 use Rattle.lines.specs.Records.{Rec, kind_of, record_of, count_of, rec_of, recs}
 use Rattle.lines.specs.Shape.{is_one, follows, shape_of}
@@ -224,12 +224,12 @@ fits_on s h rec n p before r = rw (recs_first s h) (go (begins l before) refl)
     go false e = let g : 52 * length rest + slack p ≤ length s = omega (arith, later, other_size s p line, length-drop (line_len s) s, line_le s) in g
 
 -- 52 bytes at least for each block
-pub blocks_size : (f : Text) → shape_of f ≡ Right → 52 * length (firsts_of f) ≤ length f
+pub blocks_size : (f : Text) → shape_of f ≡ Ok tt → 52 * length (firsts_of f) ≤ length f
 unfolding firsts_of contexts_in contexts_of
 blocks_size f r =
     let q = by_lines Fits fits_none fits_on f 1 0 [] (right_start f r) in
     rw (length-map (those is_first (contexts_from 1 [] (recs f))) (start_of f)) (omega (arith, q))
 
 -- no more blocks than there is room to sort
-pub capacity : (f : Text) → shape_of f ≡ Right → length f ≤ 5000000 → length (firsts_of f) ≤ 96154
+pub capacity : (f : Text) → shape_of f ≡ Ok tt → length f ≤ 5000000 → length (firsts_of f) ≤ 96154
 capacity f r h = omega (arith, blocks_size f r)

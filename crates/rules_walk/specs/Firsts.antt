@@ -1,6 +1,6 @@
 -- The index of blocks: where the first II line of each block starts, by event.
 -- Assumes nothing.
-use Rattle.std.specs.Prelude.{ℕ, Bool, cond, ◌&&◌, List, [], ◌∷◌, ◌++◌, map, length, take, drop, ltb, leb}
+use Rattle.std.specs.Prelude.{ℕ, Bool, cond, ◌&&◌, List, [], ◌∷◌, ◌++◌, map, length, take, drop, ltb, leb, Option, Some, None}
 use Rattle.house.specs.Text.{Text, any, those, same}
 use Rattle.house.specs.Over.{over}
 use Rattle.dates.specs.Dates.{is_date}
@@ -14,7 +14,6 @@ use Rattle.rules_definitions.specs.Forms.{is_uli, is_type, is_code}
 use Rattle.rules_definitions.specs.Contexts.{Context, contexts_in}
 use Rattle.rules_definitions.specs.Blocks.{begins}
 use Rattle.rules_walk.specs.declared.Built.{Built}
-use Rattle.rules_walk.specs.declared.Built.TheVariants.{Blocks, TooMany}
 
 -- these texts of fields 3, 4, 6 and 8 of an II are sound
 unfoldable pub sound_four : Text → Text → Text → Text → Bool
@@ -54,9 +53,12 @@ file_most = 5000000
 unfoldable pub can_build : Text → ℕ → Bool
 can_build f n = leb (length f) file_most && (leb (length (firsts_of f)) places_most && leb (length (firsts_of f)) n)
 
--- how many blocks there are, and whether no two of them name one event; too many where the index is not built
-unfoldable pub built_of : Text → ℕ → Built
-built_of f n = cond (can_build f n) (Blocks (length (firsts_of f)) (ascends (events_at f (index_of f)))) TooMany
+-- how many blocks there are, and whether no two of them name one event; none where the index is not built
+abbrev pub built : ℕ → Bool → Built
+built n d = record { blocks = n; distinct = d }
+
+unfoldable pub built_of : Text → ℕ → Option Built
+built_of f n = cond (can_build f n) (Some (built (length (firsts_of f)) (ascends (events_at f (index_of f))))) None
 
 -- the area after: the index in its front. Where the index is not built: the first II lines in the file's order, as many as fit; of a file that
 -- is too long none is looked for, and the area is as it was.
@@ -69,8 +71,8 @@ built_in f area = cond (can_build f (length area)) (over (index_of f) area) (con
 unfoldable pub can_sort_front : List ℕ → ℕ → Bool
 can_sort_front area n = leb n places_most && leb n (length area)
 
-unfoldable pub front_of : Text → List ℕ → ℕ → Built
-front_of f area n = cond (can_sort_front area n) (Blocks n (sorted_apart f (take n area))) TooMany
+unfoldable pub front_of : Text → List ℕ → ℕ → Option Built
+front_of f area n = cond (can_sort_front area n) (Some (built n (sorted_apart f (take n area)))) None
 
 unfoldable pub front_in : Text → List ℕ → ℕ → List ℕ
 front_in f area n = cond (can_sort_front area n) (sorted_at f (take n area) ++ drop n area) area

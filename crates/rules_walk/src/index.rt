@@ -16,19 +16,19 @@ fn sort_front(file: &[u8], index: &mut [u32], n: usize) -> bool
 }
 
 // Puts the first n places of an area in the order of their events; not where there are not so many, or too many to be sorted.
-pub fn sort_index(file: &[u8], index: &mut [u32], n: usize) -> Built
+pub fn sort_index(file: &[u8], index: &mut [u32], n: usize) -> Option<Built>
     ensures value { result ≡ front_of file.now index.old n }
     ensures index_after { index.new ≡ front_in file.now index.old n }
 {
     if MOST_PLACES < n {
-        return Built::TooMany;
+        return None;
     }
     if index.len() < n {
-        return Built::TooMany;
+        return None;
     }
     let distinct = sort_front(file, index, n);
-    Built::Blocks {
+    Some(Built {
         blocks: n,
         distinct,
-    }
+    })
 }

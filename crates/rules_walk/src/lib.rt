@@ -15,9 +15,9 @@ pub use repeats::{is_noted, note_repeats};
 // The longest file whose index is built.
 pub const MOST_BYTES: usize = 5000000;
 
-// An index is in order, of so many blocks, and whether no two of them name one event; or there are too many.
+// An index in order: of so many blocks, and whether no two of them name one event.
 #[derive(Clone, Copy)]
-pub enum Built {
-    Blocks { blocks: usize, distinct: bool },
-    TooMany,
+pub struct Built {
+    pub blocks: usize,
+    pub distinct: bool,
 }

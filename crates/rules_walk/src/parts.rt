@@ -18,17 +18,10 @@ fn is_typed(file: &[u8], p: u32, letter: u8) -> bool
 pub fn count_of(file: &[u8], places: &[u32], letter: u8) -> usize
     ensures { result ≡ length (part_of file.now letter places.now) }
 {
-    let mut n: usize = 0;
-    let mut i = 0;
-    while i < places.len() {
-        if is_typed(file, places[i], letter) {
-            n += 1;
-            i += 1;
-            continue;
-        }
-        i += 1;
-    }
-    n
+    places
+        .iter()
+        .filter(|p| is_typed(file, **p, letter))
+        .count()
 }
 
 // Writes those of these places whose lines are of a type to the front of an area, as many as fit; how many there are.
@@ -37,16 +30,11 @@ pub fn part_of(file: &[u8], places: &[u32], letter: u8, out: &mut [u32]) -> usiz
     ensures out_after { out.new ≡ over (part_of file.now letter places.now) out.old }
 {
     let mut n: usize = 0;
-    let mut i = 0;
-    while i < places.len() {
-        let p = places[i];
-        if is_typed(file, p, letter) {
-            put(out, n, p);
+    for p in places {
+        if is_typed(file, *p, letter) {
+            put(out, n, *p);
             n += 1;
-            i += 1;
-            continue;
         }
-        i += 1;
     }
     n
 }
@@ -57,16 +45,12 @@ pub fn keep(file: &[u8], places: &mut [u32], letter: u8) -> usize
     ensures places_after { places.new ≡ over (part_of file.now letter places.old) places.old }
 {
     let mut n: usize = 0;
-    let mut i = 0;
-    while i < places.len() {
+    for i in 0..places.len() {
         let p = places[i];
         if is_typed(file, p, letter) {
             places[n] = p;
             n += 1;
-            i += 1;
-            continue;
         }
-        i += 1;
     }
     n
 }

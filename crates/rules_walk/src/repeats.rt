@@ -56,14 +56,11 @@ fn note_again(file: &[u8], p: u32, last: [u8; Key::WIDTH], table: &mut [u8]) -> 
 pub fn note_repeats(file: &[u8], index: &[u32], table: &mut [u8])
     ensures { table.new ≡ note_all (repeats_in file.now index.now) table.old }
 {
-    if index.len() == 0 {
-        return;
-    }
-    let mut last = lines_places::key_at(file, wide(index[0]));
-    let mut i = 1;
-    while i < index.len() {
-        let key = note_again(file, index[i], last, table);
-        last = key;
-        i += 1;
+    if let Some((first, rest)) = index.split_first() {
+        let mut last = lines_places::key_at(file, wide(*first));
+        for p in rest {
+            let key = note_again(file, *p, last, table);
+            last = key;
+        }
     }
 }

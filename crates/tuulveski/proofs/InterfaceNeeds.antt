@@ -12,71 +12,74 @@ use Rattle.house.specs.Text.{Text}
 use Rattle.lines_fields.specs.declared.FieldPlace.{FieldPlace}
 use Rattle.lines.specs.Lines.{line_of, field_text, field_there, lines_len, field_position, place_in}
 use Rattle.tuulveski.specs.declared.interface.Numbers.{Numbers}
-use Rattle.answers.specs.declared.Answer.{Answer}
-use Rattle.answers.specs.declared.Answer.TheVariants.{Accepted, Date, Long, Book, Ledger, Shape as BadShape, Findings, Full}
-use Rattle.answers.specs.Answers.{Lent, Outcome, left, check, numbers_of}
+use Rattle.lines.specs.declared.Fault.{Fault}
+use Rattle.lines.specs.Shape.{number_of}
+use Rattle.answers.specs.declared.Accepted.{Accepted}
+use Rattle.answers.specs.declared.Refusal.TheVariants.{Date, Long, Book, Ledger, Shape as BadShape, Findings, Full}
+use Rattle.answers.specs.Answers.{Answer, Lent, Outcome, left, check, numbers_of}
 use Rattle.tuulveski.specs.Interface.{numbers, numbers_in, field_at, field_from, line_from}
 use Rattle.tuulveski.specs.Inside.{Narrow}
 use Rattle.tuulveski.proofs.NumberLaws.{check_narrow}
+use Rattle.std.proofs.Common.{Ok, Err}
 
 -- numbers_of
 module _ (x : Answer) (h : Narrow x) where
-  module _ (a c d n : ℕ) (e : x ≡ Accepted a c d n) where
-    all_narrow : (a < 4294967296) × (c < 4294967296) × (d < 4294967296) × (n < 4294967296)
+  module _ (a : Accepted) (e : x ≡ Ok a) where
+    all_narrow : (a.added < 4294967296) × (a.changed < 4294967296) × (a.deleted < 4294967296) × (a.not_immunized < 4294967296)
     unfolding Narrow
     all_narrow = subst Narrow e h
 
-    pub added_narrow : a < 4294967296
+    pub added_narrow : a.added < 4294967296
     added_narrow = all_narrow.0
 
-    pub changed_narrow : c < 4294967296
+    pub changed_narrow : a.changed < 4294967296
     changed_narrow = all_narrow.1
 
-    pub deleted_narrow : d < 4294967296
+    pub deleted_narrow : a.deleted < 4294967296
     deleted_narrow = all_narrow.2
 
-    pub not_immunized_narrow : n < 4294967296
+    pub not_immunized_narrow : a.not_immunized < 4294967296
     not_immunized_narrow = all_narrow.3
 
-  pub line_narrow : (n cause : ℕ) → x ≡ BadShape n cause → n < 4294967296
+  pub line_narrow : (fault : Fault) → x ≡ Err (BadShape fault) → fault.line < 4294967296
   unfolding Narrow
-  line_narrow n cause e = subst Narrow e h
+  line_narrow fault e = subst Narrow e h
 
-  pub found_narrow : (n : ℕ) → x ≡ Findings n → n < 4294967296
+  pub found_narrow : (n : ℕ) → x ≡ Err (Findings n) → n < 4294967296
   unfolding Narrow
   found_narrow n e = subst Narrow e h
 
 module _ (x : Answer) where
-  pub accepted_numbers : (a c d n p q r s : ℕ) → x ≡ Accepted a c d n → p ≡ a → q ≡ c → r ≡ d → s ≡ n → numbers_in (numbers 0 0 0 0 p q r s) ≡ numbers_of x
+  pub accepted_numbers : (a : Accepted) (p q r s : ℕ) → x ≡ Ok a → p ≡ a.added → q ≡ a.changed → r ≡ a.deleted → s ≡ a.not_immunized → numbers_in (numbers 0 0 0 0 p q r s) ≡ numbers_of x
   unfolding numbers_in numbers_of
-  accepted_numbers a c d n p q r s e f g h k = rw (e, f, g, h, k)
+  accepted_numbers a p q r s e f g h k = rw (e, f, g, h, k)
 
   module _ (r : Numbers) where
-    pub shape_numbers : (n cause p : ℕ) → x ≡ BadShape n cause → p ≡ n → r ≡ numbers 5 p cause 0 0 0 0 0 → numbers_in r ≡ numbers_of x
+    pub shape_numbers : (fault : Fault) (p c : ℕ) → x ≡ Err (BadShape fault) → p ≡ fault.line → c ≡ number_of fault.cause → r ≡ numbers 5 p c 0 0 0 0 0 → numbers_in r ≡ numbers_of x
     unfolding numbers_in numbers_of
-    shape_numbers n cause p e f g = rw (g, e, f)
+    shape_numbers fault p c e f k g = rw (g, e, f, k)
 
-    pub found_numbers : (n p : ℕ) → x ≡ Findings n → p ≡ n → r ≡ numbers 6 0 0 p 0 0 0 0 → numbers_in r ≡ numbers_of x
+    pub found_numbers : (n p : ℕ) → x ≡ Err (Findings n) → p ≡ n → r ≡ numbers 6 0 0 p 0 0 0 0 → numbers_in r ≡ numbers_of x
     unfolding numbers_in numbers_of
     found_numbers n p e f g = rw (g, e, f)
 
-    pub date_numbers : x ≡ Date → r ≡ numbers 1 0 0 0 0 0 0 0 → numbers_in r ≡ numbers_of x
+    pub date_numbers : x ≡ Err Date → r ≡ numbers 1 0 0 0 0 0 0 0 → numbers_in r ≡ numbers_of x
     unfolding numbers_in numbers_of
     date_numbers e f = rw (e, f)
 
-    pub long_numbers : x ≡ Long → r ≡ numbers 2 0 0 0 0 0 0 0 → numbers_in r ≡ numbers_of x
+    pub long_numbers : x ≡ Err Long → r ≡ numbers 2 0 0 0 0 0 0 0 → numbers_in r ≡ numbers_of x
     unfolding numbers_in numbers_of
     long_numbers e f = rw (e, f)
 
-    pub book_numbers : x ≡ Book → r ≡ numbers 3 0 0 0 0 0 0 0 → numbers_in r ≡ numbers_of x
+    pub book_numbers : x ≡ Err Book → r ≡ numbers 3 0 0 0 0 0 0 0 → numbers_in r ≡ numbers_of x
     unfolding numbers_in numbers_of
     book_numbers e f = rw (e, f)
 
-    pub ledger_numbers : x ≡ Ledger → r ≡ numbers 4 0 0 0 0 0 0 0 → numbers_in r ≡ numbers_of x
+    pub ledger_numbers : x ≡ Err Ledger → r ≡ numbers 4 0 0 0 0 0 0 0 → numbers_in r ≡ numbers_of x
     unfolding numbers_in numbers_of
     ledger_numbers e f = rw (e, f)
 
-    pub full_numbers : x ≡ Full → r ≡ numbers 7 0 0 0 0 0 0 0 → numbers_in r ≡ numbers_of x
+    pub full_numbers : x ≡ Err Full → r ≡ numbers 7 0 0 0 0 0 0 0 → numbers_in r ≡ numbers_of x
     unfolding numbers_in numbers_of
     full_numbers e f = rw (e, f)
 

@@ -5,14 +5,12 @@ use mathlib.Core.Bool.{Bool, true, false, cond}
 use mathlib.Core.List.{List, [], ◌∷◌, ◌++◌}
 use Prim.Native.Nat.{ℕ, zero, suc, ◌+◌, ◌*◌, ◌≤◌}
 use native.Mathlib.Omega.{arith}
-use lib.Dec.{eqb}
 use lib.ListN.{length, length-append, length-drop, length-map}
 use Rattle.house.specs.Text.{Text, joined, those, how_many}
 use Rattle.house.proofs.Small.{clash}
-use Rattle.lines.specs.declared.Shape.TheVariants.{Right, Fault}
 use Rattle.lines.specs.Lines.{Line, lines_of, line_of, text_len, line_len}
 use Rattle.lines.specs.Records.{Rec, IN, is_kind, record_of, rec_of, recs}
-use Rattle.lines.specs.Shape.{cause_of, cause7, shape_from, shape_of}
+use Rattle.lines.specs.Shape.{cause_of, cause7, fault, shape_at, shape_from, shape_of}
 use Rattle.lines.proofs.LineLaws.{line_le, line_pos, lines_step}
 use Rattle.lines.proofs.FieldLaws.{fields_few}
 use Rattle.ledger.proofs.FoundLaws.{those_le}
@@ -22,12 +20,15 @@ use Rattle.rules.specs.Seen.{Setting, Seen, seen_at}
 use Rattle.rules.specs.Rules.{Numbered, rules, rules_in, rules_of, is_placed, rules_at, broken_by, broken_at}
 use Rattle.rules.specs.Findings.{found, fields_findings, line_findings, findings_of}
 use Rattle.rules.proofs.PassLaws.{by_lines, recs_first}
-use Rattle.answers.specs.declared.Answer.{Answer}
-use Rattle.answers.specs.declared.Answer.TheVariants.{Accepted, Date, Long, Book, Ledger, Shape as BadShape, Findings, Full}
-use Rattle.answers.specs.Answers.{Lent, setting_of, findings, added, changed, deleted, not_immunized, check}
+use Rattle.answers.specs.declared.Refusal.TheVariants.{Date, Long, Book, Ledger, Shape as BadShape, Findings, Full}
+use Rattle.answers.specs.Answers.{Answer, Lent, setting_of, findings, added, changed, deleted, not_immunized, check}
 use Rattle.demands.specs.Demands.{Due}
 use Rattle.tuulveski.specs.Inside.{Narrow}
 use Rattle.demands.proofs.AnswerLaws.{given_due, only_findings}
+use Rattle.lines.specs.declared.Cause.{Cause}
+use Rattle.lines.specs.declared.Fault.{Fault}
+use Rattle.lines.specs.declared.Cause.TheVariants.{NoEnd}
+use Rattle.std.proofs.Common.{Option, Some, None, Ok, Err}
 
 -- 1. Lines
 
@@ -49,23 +50,28 @@ recs_few s =
     by_lines FewRecs (omega arith)
     (λ t h rec. rw (recs_first t h) (omega (arith, rec, length-drop (line_len t) t, line_pos t h, line_le t))) s
 
+same_line : (n line : ℕ) (c d : Cause) → fault n c ≡ fault line d → n ≡ line
+same_line n line c d e =
+    let q : ◌≡◌ {A = Fault} (record { line = n; cause = c }) (record { line = line; cause = d }) = cc in
+    ap (λ (f : Fault). f.line) q
+
 -- a fault is at a line of the file, or one past the last
-fault_at : (n p : ℕ) (ls : List Line) (line cause : ℕ) → shape_from n p ls ≡ Fault line cause → line ≤ n + length ls
+fault_at : (n p : ℕ) (ls : List Line) (line : ℕ) (cause : Cause) → shape_from n p ls ≡ fault line cause → line ≤ n + length ls
 unfolding shape_from
 fault_at n p [] line cause e = go (cause7 p) e
   where
-    go : (b : Bool) → cond b (Fault n 7) Right ≡ Fault line cause → line ≤ n + 0
-    go true e = let q : n ≡ line = cc in omega arith
+    go : (b : Bool) → cond b (fault n NoEnd) (Ok tt) ≡ fault line cause → line ≤ n + 0
+    go true e = omega (arith, same_line n line NoEnd cause e)
     go false e = clash (cc)
-fault_at n p (l ∷ ls) line cause e = go (eqb (cause_of p l) 0) e (fault_at (n + 1) (record_of l.text) ls line cause)
+fault_at n p (l ∷ ls) line cause e = go (cause_of p l) e (fault_at (n + 1) (record_of l.text) ls line cause)
   where
-    go : (b : Bool) → cond b (shape_from (n + 1) (record_of l.text) ls) (Fault n (cause_of p l)) ≡ Fault line cause
-        → (shape_from (n + 1) (record_of l.text) ls ≡ Fault line cause → line ≤ n + 1 + length ls)
+    go : (c : Option Cause) → shape_at n c (shape_from (n + 1) (record_of l.text) ls) ≡ fault line cause
+        → (shape_from (n + 1) (record_of l.text) ls ≡ fault line cause → line ≤ n + 1 + length ls)
         → line ≤ n + suc (length ls)
-    go true e rec = omega (arith, rec e)
-    go false e rec = let q : n ≡ line = cc in omega arith
+    go None e rec = omega (arith, rec e)
+    go (Some c) e rec = omega (arith, same_line n line c cause e)
 
-shape_few : (s : Text) (line cause : ℕ) → shape_of s ≡ Fault line cause → line ≤ 1 + length s
+shape_few : (s : Text) (line : ℕ) (cause : Cause) → shape_of s ≡ fault line cause → line ≤ 1 + length s
 unfolding shape_of
 shape_few s line cause e = omega (arith, fault_at 1 0 (lines_of s) line cause e, lines_few s)
 
@@ -167,23 +173,23 @@ module _ (s : Setting) where
 
 due_narrow : (x : Lent) (a : Answer) → Due x a → Narrow a
 unfolding Due Narrow added changed deleted not_immunized findings
-due_narrow x (Accepted a c d n) h =
+due_narrow x (Ok a) h =
     let short : length x.file ≤ 5000000 = h.0.lends.short in (
       omega (arith, h.3, events_few adds x.file),
       omega (arith, h.4, events_few changes x.file),
       omega (arith, h.5, events_few deletes x.file),
       omega (arith, h.6, count_le (is_kind IN) (recs x.file), recs_few x.file),
     )
-due_narrow x Date h = tt
-due_narrow x Long h = tt
-due_narrow x Book h = tt
-due_narrow x Ledger h = tt
-due_narrow x (BadShape n cause) h = let short : length x.file ≤ 5000000 = h.0.short in omega (arith, shape_few x.file n cause h.1)
-due_narrow x (Findings n) h =
+due_narrow x (Err Date) h = tt
+due_narrow x (Err Long) h = tt
+due_narrow x (Err Book) h = tt
+due_narrow x (Err Ledger) h = tt
+due_narrow x (Err (BadShape f)) h = let short : length x.file ≤ 5000000 = h.0.short in omega (arith, shape_few x.file f.line f.cause h.1)
+due_narrow x (Err (Findings n)) h =
     let short : length x.file ≤ 5000000 = h.0.lends.short in
     let e : findings x ≡ h.2 = only_findings x h.2 h.3 in
     omega (arith, ap length e, h.4, findings_few (setting_of x) x.file)
-due_narrow x Full h = tt
+due_narrow x (Err Full) h = tt
 
 pub check_narrow : (x : Lent) → Narrow (check x).answer
 check_narrow x = due_narrow x (check x).answer (given_due x)

@@ -2,8 +2,7 @@
 -- Assumes nothing.
 use Rattle.std.specs.Prelude.{◌≡◌}
 use Rattle.house.specs.Text.{Text}
-use Rattle.answers.specs.declared.Answer.{Answer}
-use Rattle.answers.specs.Answers.{Lent, Outcome, numbers_of}
+use Rattle.answers.specs.Answers.{Answer, Lent, Outcome, numbers_of}
 use Rattle.tuulveski.specs.declared.interface.Numbers.{Numbers}
 use Rattle.tuulveski.specs.Interface.{numbers_in, GivesNumbers}
 use Rattle.demands.specs.Demands.{Demands}

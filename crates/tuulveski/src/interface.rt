@@ -5,7 +5,7 @@ ghost use Rattle.chart_definitions.specs.Submissions.{request, Writes};
 ghost use Rattle.tuulveski.specs.Interface.{numbers, numbers_in, GivesNumbers, field_at, field_from, line_from};
 ghost use Rattle.tuulveski.specs.Inside.{Narrow};
 
-use answers::Answer;
+use answers::{Accepted, Refusal};
 
 // The numbers of an answer, those that it does not name being 0.
 #[repr(C)]
@@ -21,7 +21,7 @@ pub struct Numbers {
     pub not_immunized: u32,
 }
 
-// A field: whether it is there, where its text starts in the file, and how long it is.
+// A field: whether it is there, where its text starts in the file, and how long it is. A flag beside two numbers: so C has it.
 #[repr(C)]
 #[derive(Clone, Copy)]
 pub struct FieldAt {
@@ -71,33 +71,33 @@ fn refused(answer: u32, line: u32, cause: u32, findings: u32) -> Numbers
 }
 
 // The numbers of an answer.
-fn numbers_of(a: Answer) -> Numbers
+fn numbers_of(a: Result<Accepted, Refusal>) -> Numbers
     requires { Narrow a }
     ensures { numbers_in result ≡ numbers_of a }
 {
     match a {
-        Answer::Accepted {
-            added,
-            changed,
-            deleted,
-            not_immunized,
-        } => Numbers {
+        Ok(accepted) => Numbers {
             answer: 0,
             line: 0,
             cause: 0,
             findings: 0,
-            added: narrow(added),
-            changed: narrow(changed),
-            deleted: narrow(deleted),
-            not_immunized: narrow(not_immunized),
+            added: narrow(accepted.added),
+            changed: narrow(accepted.changed),
+            deleted: narrow(accepted.deleted),
+            not_immunized: narrow(accepted.not_immunized),
         },
-        Answer::Date => refused(1, 0, 0, 0),
-        Answer::Long => refused(2, 0, 0, 0),
-        Answer::Book => refused(3, 0, 0, 0),
-        Answer::Ledger => refused(4, 0, 0, 0),
-        Answer::Shape { line, cause } => refused(5, narrow(line), cause as u32, 0),
-        Answer::Findings(n) => refused(6, 0, 0, narrow(n)),
-        Answer::Full => refused(7, 0, 0, 0),
+        Err(Refusal::Date) => refused(1, 0, 0, 0),
+        Err(Refusal::Long) => refused(2, 0, 0, 0),
+        Err(Refusal::Book) => refused(3, 0, 0, 0),
+        Err(Refusal::Ledger) => refused(4, 0, 0, 0),
+        Err(Refusal::Shape(fault)) => refused(
+            5,
+            narrow(fault.line),
+            fault.cause.number() as u32,
+            0,
+        ),
+        Err(Refusal::Findings(n)) => refused(6, 0, 0, narrow(n)),
+        Err(Refusal::Full) => refused(7, 0, 0, 0),
     }
 }
 
@@ -161,9 +161,11 @@ pub fn tuulveski_write(prefix: &[u8], batch: &[u8], chart: &[u8], out: &mut [u8]
     ensures { Writes (request prefix.now batch.now chart.now out.old)
         result.answer result.length out.new }
 {
-    let a = chart::write(prefix, batch, chart, out);
-    Written {
-        answer: a.answer,
-        length: a.length,
+    match chart::write(prefix, batch, chart, out) {
+        Ok(length) => Written { answer: 0, length },
+        Err(refusal) => Written {
+            answer: refusal.number(),
+            length: 0,
+        },
     }
 }

@@ -3,7 +3,7 @@
 // code.
 #![tactic(auto)]
 
-use book::{Found, Position, Read, Sections, Standing, Validity};
+use book::{Position, Read, Sections, Standing};
 use std::io;
 
 fn main(rt: HostRuntime) -> io::Result<()> {
@@ -13,26 +13,11 @@ fn main(rt: HostRuntime) -> io::Result<()> {
 }
 
 fn run(rt: &impl Print, s: &[u8]) -> io::Result<()> {
-    let mut at = 0;
-    while at < s.len() {
-        let p = vectors_stream::part_at(s, at);
-        let next = p.end;
-        let q = vectors_stream::part_at(s, next);
-        if p.whole {
-            if q.whole {
-                let a = p.start;
-                let b = p.end;
-                let c = q.start;
-                let d = q.end;
-                one(rt, &s[a..b], &s[c..d])?;
-                vectors_stream::end_line(rt)?;
-                at = d;
-            } else {
-                return Ok(());
-            }
-        } else {
-            return Ok(());
-        }
+    let mut rest = s;
+    while let Some((book, asks, behind)) = vectors_stream::two_parts(rest) {
+        one(rt, book, asks)?;
+        vectors_stream::end_line(rt)?;
+        rest = behind;
     }
     Ok(())
 }
@@ -42,20 +27,18 @@ fn one(rt: &impl Print, book: &[u8], asks: &[u8]) -> io::Result<()> {
     say_entries(rt, book)?;
     let v = book::valid(book);
     match v {
-        Validity::Valid(sections) => {
+        Some(sections) => {
             rt.write_all(b"valid ")?;
             say_asked(rt, book, sections, asks)
         }
-        Validity::Malformed => rt.write_all(b"malformed "),
+        None => rt.write_all(b"malformed "),
     }
 }
 
 // The kind of each entry and where its body starts, up to the end or to what is no whole entry.
 fn say_entries(rt: &impl Print, book: &[u8]) -> io::Result<()> {
     let mut at = 0;
-    let mut left = book.len() + 1;
-    while 0 < left {
-        left -= 1;
+    for _ in 0..book.len() + 1 {
         let p = Position { at };
         let r = p.read(book);
         match r {
@@ -77,6 +60,7 @@ fn say_entries(rt: &impl Print, book: &[u8]) -> io::Result<()> {
 
 fn say_asked(rt: &impl Print, book: &[u8], sections: Sections, asks: &[u8]) -> io::Result<()> {
     let mut at = 0;
+    // Not a `for`: the position goes on by what the parts hold.
     while at < asks.len() {
         let p = vectors_stream::part_at(asks, at);
         let to = p.end;
@@ -127,8 +111,8 @@ fn say_standing(
 ) -> io::Result<()> {
     let f = book::find(book, sections, kind, a, b);
     match f {
-        Found::At(place) => vectors_stream::say(rt, place.at as u64)?,
-        Found::Absent => rt.write_all(b"absent ")?,
+        Some(place) => vectors_stream::say(rt, place.at as u64)?,
+        None => rt.write_all(b"absent ")?,
     }
     let s = book::look_up(book, sections, kind, a, b, day, until);
     match s {

@@ -19,10 +19,8 @@ fn run(rt: &(impl Input + Print), area: &mut [u8]) -> io::Result<()> {
 
 // Free slots: 100,000, and one more.
 fn say_ledgers(rt: &impl Print, zeros: &[u8]) -> io::Result<()> {
-    let from = 0;
-    let most = 3800000;
-    if most <= zeros.len() {
-        say_ledger(rt, &zeros[from..most])?;
+    if let Some(most) = zeros.get(..3800000) {
+        say_ledger(rt, most)?;
         say_ledger(rt, zeros)?;
     }
     Ok(())
@@ -33,11 +31,11 @@ fn say_ledger(rt: &impl Print, ledger: &[u8]) -> io::Result<()> {
     vectors_stream::say(rt, ledger.len() as u64)?;
     let v = ledger::valid(ledger);
     match v {
-        ledger::Validity::Sound { live } => {
+        Some(live) => {
             rt.write_all(b"sound ")?;
             vectors_stream::say(rt, live as u64)?;
         }
-        ledger::Validity::Malformed => {
+        None => {
             rt.write_all(b"malformed ")?;
         }
     }
@@ -58,17 +56,6 @@ fn say_parts(rt: &impl Print, s: &[u8]) -> io::Result<()> {
     say_sorts(rt, s, till)
 }
 
-fn say_book(rt: &impl Print, book: &[u8]) -> io::Result<()> {
-    rt.write_all(b"book ")?;
-    vectors_stream::say(rt, book.len() as u64)?;
-    let v = book::valid(book);
-    match v {
-        book::Validity::Valid(_) => rt.write_all(b"valid ")?,
-        book::Validity::Malformed => rt.write_all(b"malformed ")?,
-    }
-    vectors_stream::end_line(rt)
-}
-
 fn say_sorts(rt: &impl Print, s: &[u8], at: usize) -> io::Result<()> {
     let f = vectors_stream::part_at(s, at);
     let to = f.end;
@@ -77,17 +64,25 @@ fn say_sorts(rt: &impl Print, s: &[u8], at: usize) -> io::Result<()> {
     let f1 = f.end;
     let t0 = t.start;
     let t1 = t.end;
-    sort_most(rt, &s[f0..f1], &s[t0..t1])?;
-    sort_more(rt, &s[f0..f1], &s[t0..t1])
+    sort_so_many::<96154>(rt, &s[f0..f1], &s[t0..t1])?;
+    sort_so_many::<96155>(rt, &s[f0..f1], &s[t0..t1])
 }
 
-fn sort_most(rt: &impl Print, file: &[u8], three: &[u8]) -> io::Result<()> {
-    let mut places = [0u32; 96154];
-    say_sort(rt, file, three, &mut places)
+fn say_book(rt: &impl Print, book: &[u8]) -> io::Result<()> {
+    rt.write_all(b"book ")?;
+    vectors_stream::say(rt, book.len() as u64)?;
+    let v = book::valid(book);
+    match v {
+        Some(_) => rt.write_all(b"valid ")?,
+        None => rt.write_all(b"malformed ")?,
+    }
+    vectors_stream::end_line(rt)
 }
 
-fn sort_more(rt: &impl Print, file: &[u8], three: &[u8]) -> io::Result<()> {
-    let mut places = [0u32; 96155];
+fn sort_so_many<const N: usize>(rt: &impl Print, file: &[u8], three: &[u8]) -> io::Result<()>
+    requires { N ≤ 96155 }
+{
+    let mut places = [0u32; N];
     say_sort(rt, file, three, &mut places)
 }
 
@@ -104,34 +99,21 @@ fn say_sort(rt: &impl Print, file: &[u8], three: &[u8], places: &mut [u32]) -> i
 }
 
 fn fill(three: &[u8], places: &mut [u32]) {
-    let mut i = 0;
-    while i < places.len() {
-        places[i] = vectors_stream::number_at(three, i % 3 * 4);
-        i += 1;
+    for (i, place) in places.iter_mut().enumerate() {
+        *place = vectors_stream::number_at(three, i % 3 * 4);
     }
-}
-
-fn differ(a: u32, b: u32) -> usize
-    ensures { result ≤ 1 }
-{
-    if a == b { 0 } else { 1 }
 }
 
 fn changes(places: &[u32]) -> usize {
-    let mut n = 0;
-    let mut i = 1;
-    while i < places.len() {
-        n += differ(places[i - 1], places[i]);
-        i += 1;
-    }
-    n
+    places.array_windows::<2>().filter(|[a, b]| a != b).count()
 }
 
 fn say_ends(rt: &impl Print, places: &[u32]) -> io::Result<()> {
-    let n = places.len();
-    if 0 < n {
-        vectors_stream::say(rt, house::wide(places[0]) as u64)?;
-        vectors_stream::say(rt, house::wide(places[n - 1]) as u64)?;
+    if let Some(first) = places.first() {
+        vectors_stream::say(rt, *first as u64)?;
+    }
+    if let Some(last) = places.last() {
+        vectors_stream::say(rt, *last as u64)?;
     }
     Ok(())
 }

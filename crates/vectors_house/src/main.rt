@@ -2,8 +2,9 @@
 // is asked, and three texts.
 #![tactic(auto)]
 
-use dates::{Date, Dated};
-use house::{Key, Order};
+use dates::Date;
+use house::Key;
+use std::cmp::Ordering;
 use std::io;
 
 fn main(rt: HostRuntime) -> io::Result<()> {
@@ -14,6 +15,7 @@ fn main(rt: HostRuntime) -> io::Result<()> {
 
 fn run(rt: &impl Print, s: &[u8]) -> io::Result<()> {
     let mut at = 0;
+    // Not a `for`: the position goes on by what the parts hold.
     while at < s.len() {
         let p = vectors_stream::part_at(s, at);
         let next = p.end;
@@ -65,10 +67,10 @@ fn answer(rt: &impl Print, op: u8, a: &[u8], b: &[u8], c: &[u8]) -> io::Result<(
     vectors_stream::end_line(rt)
 }
 
-fn say_dated(rt: &impl Print, d: Dated) -> io::Result<()> {
+fn say_dated(rt: &impl Print, d: Option<Date>) -> io::Result<()> {
     match d {
-        Dated::Day(x) => vectors_stream::say(rt, x.number as u64),
-        Dated::NoDate => vectors_stream::say(rt, 0),
+        Some(x) => vectors_stream::say(rt, x.number as u64),
+        None => vectors_stream::say(rt, 0),
     }
 }
 
@@ -80,12 +82,12 @@ fn say_dates(rt: &impl Print, t: &[u8]) -> io::Result<()> {
     say_dated(rt, e)?;
     vectors_stream::say_yes(rt, Date::is_end(t))?;
     match d {
-        Dated::Day(x) => {
+        Some(x) => {
             let again = Date::of_number(x.number);
             say_dated(rt, again)?;
             vectors_stream::say_yes(rt, Date::is_day(x.number))
         }
-        Dated::NoDate => vectors_stream::say_yes(rt, false),
+        None => vectors_stream::say_yes(rt, false),
     }
 }
 
@@ -94,11 +96,11 @@ fn say_texts(rt: &impl Print, t: &[u8]) -> io::Result<()> {
     vectors_stream::say_yes(rt, house::all_digits(t))
 }
 
-fn say_order(rt: &impl Print, o: Order) -> io::Result<()> {
+fn say_order(rt: &impl Print, o: Ordering) -> io::Result<()> {
     match o {
-        Order::Less => vectors_stream::say(rt, 1),
-        Order::Same => vectors_stream::say(rt, 2),
-        Order::More => vectors_stream::say(rt, 3),
+        Ordering::Less => vectors_stream::say(rt, 1),
+        Ordering::Equal => vectors_stream::say(rt, 2),
+        Ordering::Greater => vectors_stream::say(rt, 3),
     }
 }
 

@@ -2,8 +2,10 @@
 // of three parts: a file, and the places in it of lines whose events are to be added and deleted, four bytes each.
 #![tactic(auto)]
 
-use ledger::Validity;
 use std::io;
+
+// How many bytes three slots have.
+const THREE_SLOTS: usize = 114;
 
 fn main(rt: HostRuntime) -> io::Result<()> {
     let mut space = [0u8; 65536];
@@ -12,27 +14,12 @@ fn main(rt: HostRuntime) -> io::Result<()> {
 }
 
 fn run(rt: &impl Print, s: &[u8]) -> io::Result<()> {
-    let mut at = 0;
-    while at < s.len() {
-        let p = vectors_stream::part_at(s, at);
-        let next = p.end;
-        let q = vectors_stream::part_at(s, next);
-        if p.whole {
-            if q.whole {
-                let a = p.start;
-                let b = p.end;
-                let c = q.start;
-                let d = q.end;
-                let live = say_valid(rt, &s[a..b])?;
-                one(rt, &s[a..b], live, &s[c..d])?;
-                vectors_stream::end_line(rt)?;
-                at = d;
-            } else {
-                return Ok(());
-            }
-        } else {
-            return Ok(());
-        }
+    let mut rest = s;
+    while let Some((ledger, asked, behind)) = vectors_stream::two_parts(rest) {
+        let live = say_valid(rt, ledger)?;
+        one(rt, ledger, live, asked)?;
+        vectors_stream::end_line(rt)?;
+        rest = behind;
     }
     Ok(())
 }
@@ -41,12 +28,12 @@ fn run(rt: &impl Print, s: &[u8]) -> io::Result<()> {
 fn say_valid(rt: &impl Print, ledger: &[u8]) -> io::Result<usize> {
     let v = ledger::valid(ledger);
     match v {
-        Validity::Sound { live } => {
+        Some(live) => {
             rt.write_all(b"sound ")?;
             vectors_stream::say(rt, live as u64)?;
             Ok(live)
         }
-        Validity::Malformed => {
+        None => {
             rt.write_all(b"malformed ")?;
             Ok(0)
         }
@@ -67,7 +54,7 @@ fn one(rt: &impl Print, lent: &[u8], live: usize, asked: &[u8]) -> io::Result<()
         let a1 = a.end;
         let d0 = d.start;
         let d1 = d.end;
-        if lent.len() == 114 {
+        if lent.len() == THREE_SLOTS {
             say_live(rt, lent, live, &asked[f0..f1], &asked[a0..a1])?;
             say_sorted(rt, &asked[f0..f1], &asked[a0..a1])?;
             say_updated(
@@ -91,57 +78,31 @@ fn say_live(
     file: &[u8],
     places: &[u8],
 ) -> io::Result<()> {
-    let mut i = 0;
-    while i < 4 {
-        if i < places.len() / 4 {
-            let key = lines_places::key_at(
-                file,
-                house::wide(vectors_stream::number_at(places, 4 * i)),
-            );
-            vectors_stream::say_yes(rt, ledger::is_live(ledger, live, key))?;
-        }
-        i += 1;
+    for place in places.chunks_exact(4).take(4) {
+        let key = lines_places::key_at(file, house::wide(vectors_stream::number_at(place, 0)));
+        vectors_stream::say_yes(rt, ledger::is_live(ledger, live, key))?;
     }
     Ok(())
 }
 
 // Four places, 0 where there are fewer.
 fn four(places: &[u8]) -> [u32; 4] {
-    let mut out = [0u32; 4];
-    out[0] = vectors_stream::number_at(places, 0);
-    out[1] = vectors_stream::number_at(places, 4);
-    out[2] = vectors_stream::number_at(places, 8);
-    out[3] = vectors_stream::number_at(places, 12);
-    out
+    [
+        vectors_stream::number_at(places, 0),
+        vectors_stream::number_at(places, 4),
+        vectors_stream::number_at(places, 8),
+        vectors_stream::number_at(places, 12),
+    ]
 }
 
 // Whether no two of the events of four places are the same, and the places in the order of their events.
 fn say_sorted(rt: &impl Print, file: &[u8], places: &[u8]) -> io::Result<()> {
     let mut sorted = four(places);
     vectors_stream::say_yes(rt, lines_places::sort(file, &mut sorted))?;
-    say_place(rt, sorted[0])?;
-    say_place(rt, sorted[1])?;
-    say_place(rt, sorted[2])?;
-    say_place(rt, sorted[3])
-}
-
-fn say_place(rt: &impl Print, p: u32) -> io::Result<()> {
-    vectors_stream::say(rt, p as u64)
-}
-
-// The byte at a place, 0 past the end.
-fn byte_at(s: &[u8], i: usize) -> u8 {
-    if i < s.len() { s[i] } else { 0 }
-}
-
-fn three_slots(lent: &[u8]) -> [u8; 114] {
-    let mut out = [0u8; 114];
-    let mut i = 0;
-    while i < 114 {
-        out[i] = byte_at(lent, i);
-        i += 1;
+    for place in &sorted {
+        vectors_stream::say(rt, *place as u64)?;
     }
-    out
+    Ok(())
 }
 
 // The ledger after an update by the first places.
@@ -153,36 +114,16 @@ fn say_updated(
     adds: &[u8],
     deletes: &[u8],
 ) -> io::Result<()> {
-    let mut ledger = three_slots(lent);
+    let mut ledger = [0u8; THREE_SLOTS];
+    for (byte, was) in ledger.iter_mut().zip(lent) {
+        *byte = *was;
+    }
     let plus = four(adds);
     let minus = four(deletes);
-    update(
-        &mut ledger,
-        live,
-        file,
-        &plus,
-        adds.len() / 4,
-        &minus,
-        deletes.len() / 4,
-    );
+    if let Some(plus) = plus.get(..adds.len() / 4) {
+        if let Some(minus) = minus.get(..deletes.len() / 4) {
+            ledger::update(&mut ledger, live, file, plus, minus);
+        }
+    }
     vectors_stream::say_text(rt, &ledger)
-}
-
-fn update(
-    ledger: &mut [u8],
-    live: usize,
-    file: &[u8],
-    adds: &[u32],
-    i: usize,
-    deletes: &[u32],
-    j: usize,
-) {
-    if adds.len() < i {
-        return;
-    }
-    if deletes.len() < j {
-        return;
-    }
-    let from = 0;
-    ledger::update(ledger, live, file, &adds[from..i], &deletes[from..j]);
 }

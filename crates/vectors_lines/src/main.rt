@@ -2,7 +2,6 @@
 // ask for a field of a line.
 #![tactic(auto)]
 
-use lines::Shape;
 use std::io;
 
 fn main(rt: HostRuntime) -> io::Result<()> {
@@ -12,27 +11,12 @@ fn main(rt: HostRuntime) -> io::Result<()> {
 }
 
 fn run(rt: &impl Print, s: &[u8]) -> io::Result<()> {
-    let mut at = 0;
-    while at < s.len() {
-        let p = vectors_stream::part_at(s, at);
-        let next = p.end;
-        let q = vectors_stream::part_at(s, next);
-        if p.whole {
-            if q.whole {
-                let a = p.start;
-                let b = p.end;
-                let c = q.start;
-                let d = q.end;
-                say_shape(rt, &s[a..b])?;
-                say_fields(rt, &s[a..b], &s[c..d])?;
-                vectors_stream::end_line(rt)?;
-                at = d;
-            } else {
-                return Ok(());
-            }
-        } else {
-            return Ok(());
-        }
+    let mut rest = s;
+    while let Some((file, asks, behind)) = vectors_stream::two_parts(rest) {
+        say_shape(rt, file)?;
+        say_fields(rt, file, asks)?;
+        vectors_stream::end_line(rt)?;
+        rest = behind;
     }
     Ok(())
 }
@@ -41,24 +25,23 @@ fn run(rt: &impl Print, s: &[u8]) -> io::Result<()> {
 fn say_shape(rt: &impl Print, file: &[u8]) -> io::Result<()> {
     let shape = lines::shape_of(file);
     match shape {
-        Shape::Right => vectors_stream::say(rt, 0),
-        Shape::Fault { line, cause } => {
-            vectors_stream::say(rt, line as u64)?;
-            vectors_stream::say(rt, cause as u64)
+        Ok(()) => vectors_stream::say(rt, 0),
+        Err(fault) => {
+            vectors_stream::say(rt, fault.line as u64)?;
+            vectors_stream::say(rt, fault.cause.number() as u64)
         }
     }
 }
 
 fn say_fields(rt: &impl Print, file: &[u8], asks: &[u8]) -> io::Result<()> {
-    let mut i = 0;
-    while i + 1 < asks.len() {
+    let (pairs, _) = asks.as_chunks::<2>();
+    for ask in pairs {
         say_field(
             rt,
             file,
-            vectors_stream::wide(asks[i]),
-            vectors_stream::wide(asks[i + 1]),
+            vectors_stream::wide(ask[0]),
+            vectors_stream::wide(ask[1]),
         )?;
-        i += 2;
     }
     Ok(())
 }

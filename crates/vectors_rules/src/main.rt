@@ -6,6 +6,12 @@ use book::Sections;
 use rules::{By, Judged};
 use std::io;
 
+// A finding has six bytes.
+const FINDING: usize = 6;
+
+// What the bytes of the findings area are before.
+const LENT: u8 = 238;
+
 fn main(rt: HostRuntime) -> io::Result<()> {
     let mut space = [0u8; 200000];
     serve(&rt, &mut space)
@@ -17,25 +23,10 @@ fn serve(rt: &(impl Input + Print), space: &mut [u8]) -> io::Result<()> {
 }
 
 fn run(rt: &impl Print, s: &[u8]) -> io::Result<()> {
-    let mut at = 0;
-    while at < s.len() {
-        let p = vectors_stream::part_at(s, at);
-        let next = p.end;
-        let q = vectors_stream::part_at(s, next);
-        if p.whole {
-            if q.whole {
-                let a = p.start;
-                let b = p.end;
-                let c = q.start;
-                let d = q.end;
-                one(rt, &s[a..b], &s[c..d])?;
-                at = d;
-            } else {
-                return Ok(());
-            }
-        } else {
-            return Ok(());
-        }
+    let mut rest = s;
+    while let Some((file, with, behind)) = vectors_stream::two_parts(rest) {
+        one(rt, file, with)?;
+        rest = behind;
     }
     Ok(())
 }
@@ -67,8 +58,8 @@ fn by_book(
 ) -> io::Result<()> {
     let v = book::valid(book);
     match v {
-        book::Validity::Valid(q) => by_ledger(rt, file, numbers, book, q, ledger),
-        book::Validity::Malformed => rt.write_all(b"book\n"),
+        Some(q) => by_ledger(rt, file, numbers, book, q, ledger),
+        None => rt.write_all(b"book\n"),
     }
 }
 
@@ -82,7 +73,7 @@ fn by_ledger(
 ) -> io::Result<()> {
     let v = ledger::valid(ledger);
     match v {
-        ledger::Validity::Sound { live } => {
+        Some(live) => {
             let by = By {
                 today: vectors_stream::number_at(numbers, 0),
                 sections: q,
@@ -90,7 +81,7 @@ fn by_ledger(
             };
             lend(rt, file, numbers, book, by, ledger)
         }
-        ledger::Validity::Malformed => rt.write_all(b"ledger\n"),
+        None => rt.write_all(b"ledger\n"),
     }
 }
 
@@ -103,7 +94,7 @@ fn lend(
     ledger: &[u8],
 ) -> io::Result<()> {
     let mut buffer = [0u32; 130];
-    let mut area = [238u8; 600];
+    let mut area = [LENT; 600];
     judged(rt, file, numbers, book, by, ledger, &mut buffer, &mut area)
 }
 
@@ -126,33 +117,28 @@ fn judged(
     if area.len() < bytes {
         return Ok(());
     }
-    let from = 0;
     let j = rules::judge(
         file,
         book,
         by,
         ledger,
-        &mut buffer[from..blocks],
-        &mut area[from..bytes],
+        &mut buffer[..blocks],
+        &mut area[..bytes],
     );
-    say_judged(rt, j, &area[from..bytes])
+    say_judged(rt, j, &area[..bytes])
 }
 
 // How many blocks, findings and IN records there are, and the findings area.
-fn say_judged(rt: &impl Print, j: Judged, area: &[u8]) -> io::Result<()> {
+fn say_judged(rt: &impl Print, j: Option<Judged>, area: &[u8]) -> io::Result<()> {
     match j {
-        Judged::Done {
-            blocks,
-            findings,
-            not_immunized,
-        } => {
+        Some(judged) => {
             rt.write_all(b"done ")?;
-            vectors_stream::say(rt, blocks as u64)?;
-            vectors_stream::say(rt, findings as u64)?;
-            vectors_stream::say(rt, not_immunized as u64)?;
-            say_area(rt, area, findings)
+            vectors_stream::say(rt, judged.blocks as u64)?;
+            vectors_stream::say(rt, judged.findings as u64)?;
+            vectors_stream::say(rt, judged.not_immunized as u64)?;
+            say_area(rt, area, judged.findings)
         }
-        Judged::TooMany => {
+        None => {
             rt.write_all(b"too-many ")?;
             say_area(rt, area, written(area))
         }
@@ -161,51 +147,24 @@ fn say_judged(rt: &impl Print, j: Judged, area: &[u8]) -> io::Result<()> {
 
 // How many findings an area starts with: no rule has the number of the bytes that are lent.
 fn written(area: &[u8]) -> usize {
-    let mut at = 0;
-    let mut n: usize = 0;
-    while at < area.len() {
-        if area.len() - at < 6 {
-            return n;
-        }
-        if area[at] == 238 {
-            return n;
-        }
-        at += 6;
-        n += 1;
-    }
-    n
+    let (kept, _) = area.as_chunks::<FINDING>();
+    kept.iter().take_while(|f| f[0] != LENT).count()
 }
 
 // The findings that are kept, each on its line, and whether the other bytes are as lent.
 fn say_area(rt: &impl Print, area: &[u8], findings: usize) -> io::Result<()> {
-    let mut at = 0;
-    let mut left = findings;
     vectors_stream::end_line(rt)?;
-    while 0 < left {
-        if area.len() - at < 6 {
-            break;
-        }
-        vectors_stream::say(rt, vectors_stream::number_at(area, at + 1) as u64)?;
-        vectors_stream::say(rt, vectors_stream::wide(area[at + 5]) as u64)?;
-        vectors_stream::say(rt, vectors_stream::wide(area[at]) as u64)?;
+    let (whole, _) = area.as_chunks::<FINDING>();
+    let n = findings.min(whole.len());
+    for f in &whole[..n] {
+        vectors_stream::say(rt, vectors_stream::number_at(f, 1) as u64)?;
+        vectors_stream::say(rt, f[5] as u64)?;
+        vectors_stream::say(rt, f[0] as u64)?;
         vectors_stream::end_line(rt)?;
-        at += 6;
-        left -= 1;
     }
-    if as_lent(area, at) {
+    if area[n * FINDING..].iter().all(|b| *b == LENT) {
         rt.write_all(b"kept\n")
     } else {
         rt.write_all(b"altered\n")
     }
-}
-
-fn as_lent(area: &[u8], from: usize) -> bool {
-    let mut i = from;
-    while i < area.len() {
-        if area[i] != 238 {
-            return false;
-        }
-        i += 1;
-    }
-    true
 }

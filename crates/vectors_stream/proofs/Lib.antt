@@ -1,3 +1,2 @@
-pub mod PartLaws
 mod PartNeeds
 mod OneAnswer

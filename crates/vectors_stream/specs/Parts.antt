@@ -1,6 +1,6 @@
 -- The parts of a stream of vectors.
 -- Assumes nothing.
-use Rattle.std.specs.Prelude.{ℕ, ◌+◌, ◌-◌, ◌≤◌, ◌<◌, ◌≡◌, true, false, cond, ◌&&◌, length, leb, List}
+use Rattle.std.specs.Prelude.{ℕ, ◌+◌, ◌-◌, ◌≤◌, ◌<◌, ◌≡◌, true, false, cond, ◌&&◌, length, take, drop, leb, List}
 use Rattle.house.specs.Numbers.{four_bytes}
 use Rattle.vectors_stream.specs.declared.Part.{Part}
 
@@ -16,3 +16,9 @@ pub record PartIs (s : List ℕ) (at : ℕ) (r : Part) : Type 0 where
   pub ordered : r.start ≤ r.end
   pub within : r.end ≤ length s
   pub past : r.whole ≡ true → at < r.end
+
+-- the bytes of the part that a stream starts with, and those behind it
+pub record FirstIs (s part rest : List ℕ) : Type 0 where
+  pub whole : (part_at s 0).whole ≡ true
+  pub part_is : part ≡ take ((part_at s 0).end - (part_at s 0).start) (drop (part_at s 0).start s)
+  pub rest_is : rest ≡ drop (part_at s 0).end s

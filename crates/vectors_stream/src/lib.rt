@@ -1,9 +1,9 @@
 // A stream of parts for the programs that run vectors: each part is four bytes of length, lowest first, and as many bytes.
 #![tactic(auto)]
 
-ghost use Rattle.std.specs.Prelude.{◌≡◌};
+ghost use Rattle.std.specs.Prelude.{◌≡◌, ◌<◌, ℕ, List, IfSome, IfNone, false, length};
 ghost use Rattle.std.specs.Io.{ReadsAtMost};
-ghost use Rattle.vectors_stream.specs.Parts.{PartIs};
+ghost use Rattle.vectors_stream.specs.Parts.{part_at, PartIs, FirstIs};
 
 pub use house::number_at;
 use std::io;
@@ -52,6 +52,29 @@ pub fn part_at(s: &[u8], at: usize) -> Part
     }
 }
 
+// The first part of a stream, and what stands behind it; none where the stream ends before the part does.
+pub fn first_part(s: &[u8]) -> Option<(&[u8], &[u8])>
+    ensures parts { IfSome result (λ p. FirstIs s.now p.0.now p.1.now) }
+    ensures absent { IfNone result ((part_at s.now 0).whole ≡ false) }
+    ensures shorter { IfSome result (λ p. length p.1.now < length s.now) }
+{
+    let p = part_at(s, 0);
+    if p.whole {
+        return Some((&s[p.start..p.end], &s[p.end..]));
+    }
+    None
+}
+
+// The first two parts, and what stands behind them.
+pub fn two_parts(s: &[u8]) -> Option<(&[u8], &[u8], &[u8])>
+    ensures parts { IfSome result (λ p. (rest : List ℕ) × FirstIs s.now p.0.now rest × FirstIs rest p.1.now p.2.now) }
+    ensures shorter { IfSome result (λ p. length p.2.now < length s.now) }
+{
+    let (first, rest) = first_part(s)?;
+    let (second, behind) = first_part(rest)?;
+    Some((first, second, behind))
+}
+
 // A byte as a number.
 pub fn wide(b: u8) -> usize
     ensures { result ≡ b }
@@ -65,6 +88,7 @@ pub fn read(rt: &impl Input, space: &mut [u8]) -> io::Result<usize>
 {
     let mut reader = rt.reader();
     let mut done = 0;
+    // Not a `for`: the position jumps by what was read.
     while done < space.len() {
         let n = reader.read(&mut space[done..])?;
         if n == 0 {

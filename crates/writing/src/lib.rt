@@ -10,6 +10,7 @@ pub fn number_length(n: usize) -> usize
 {
     let mut k = 1;
     let mut rest = n;
+    // Not a `for`: the number gets shorter by a digit each time.
     while 10 <= rest {
         rest /= 10;
         k += 1;

@@ -1,11 +1,11 @@
 use Rattle.blanks.proofs.BlankLaws.{for_last_blanks}
 use Rattle.blanks.proofs.last_blanks.Goals as goal
 
-pub loop-n-preserved : goal.loop-n-preserved
-loop-n-preserved c = search for_last_blanks
+pub loop-i-preserved : goal.loop-i-preserved
+loop-i-preserved c = search for_last_blanks
 
-pub returns-else-text-n-eq32-clause-text_value : goal.returns-else-text-n-eq32-clause-text_value
-returns-else-text-n-eq32-clause-text_value c = search for_last_blanks
+pub returns-then-text-i-ne32-clause-text_value : goal.returns-then-text-i-ne32-clause-text_value
+returns-then-text-i-ne32-clause-text_value c = search for_last_blanks
 
 pub returns-clause-text_value : goal.returns-clause-text_value
 returns-clause-text_value c = search for_last_blanks

@@ -1,8 +1,5 @@
-use Rattle.rules_plain.proofs.PlainNeeds.{for_date}
+use Rattle.rules_plain.proofs.PlainNeeds.{ii6_form}
 use Rattle.rules_plain.proofs.ii6_date.Goals as goal
 
-pub returns-in-Day : goal.returns-in-Day
-returns-in-Day c = search for_date
-
-pub returns-in-NoDate : goal.returns-in-NoDate
-returns-in-NoDate c = search for_date
+pub date_field-requires : goal.date_field-requires
+date_field-requires c = ii6_form c.args.t.now

@@ -7,5 +7,5 @@ returns-then-today-day c = search for_birth
 pub returns-else-today-day : goal.returns-else-today-day
 returns-else-today-day c = search for_birth
 
-pub returns-in-NoDate : goal.returns-in-NoDate
-returns-in-NoDate c = search for_birth
+pub returns-in-None : goal.returns-in-None
+returns-in-None c = search for_birth

@@ -8,14 +8,14 @@ pub bring_up_to_date-requires-clause-index_len_bound :
     goal.bring_up_to_date-requires-clause-index_len_bound
 bring_up_to_date-requires-clause-index_len_bound c = search for_settle
 
-pub returns-in-Done-clause-ledger_after : goal.returns-in-Done-clause-ledger_after
-returns-in-Done-clause-ledger_after c = search for_settle
+pub returns-in-Some-clause-ledger_after : goal.returns-in-Some-clause-ledger_after
+returns-in-Some-clause-ledger_after c = search for_settle
 
-pub returns-in-Done-clause-index_after : goal.returns-in-Done-clause-index_after
-returns-in-Done-clause-index_after c = search for_settle
+pub returns-in-Some-clause-index_after : goal.returns-in-Some-clause-index_after
+returns-in-Some-clause-index_after c = search for_settle
 
-pub returns-in-NoRoom-clause-ledger_after : goal.returns-in-NoRoom-clause-ledger_after
-returns-in-NoRoom-clause-ledger_after c = search for_settle
+pub returns-in-None-clause-ledger_after : goal.returns-in-None-clause-ledger_after
+returns-in-None-clause-ledger_after c = search for_settle
 
-pub returns-in-NoRoom-clause-index_after : goal.returns-in-NoRoom-clause-index_after
-returns-in-NoRoom-clause-index_after c = search for_settle
+pub returns-in-None-clause-index_after : goal.returns-in-None-clause-index_after
+returns-in-None-clause-index_after c = search for_settle

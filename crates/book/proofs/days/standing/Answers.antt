@@ -7,5 +7,5 @@ returns-then-in_force c = search for_standing
 pub returns-else-in_force : goal.returns-else-in_force
 returns-else-in_force c = search for_standing
 
-pub returns-in-Absent : goal.returns-in-Absent
-returns-in-Absent c = search for_standing
+pub returns-in-None : goal.returns-in-None
+returns-in-None c = search for_standing

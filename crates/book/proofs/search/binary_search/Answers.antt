@@ -7,8 +7,8 @@ loop-lo-preserved-in-Less c = search for_binary_search
 pub loop-lo-preserved : goal.loop-lo-preserved
 loop-lo-preserved c = search for_binary_search
 
-pub returns-in-Same : goal.returns-in-Same
-returns-in-Same c = search for_binary_search
+pub returns-in-Equal : goal.returns-in-Equal
+returns-in-Equal c = search for_binary_search
 
 pub returns : goal.returns
 returns c = search for_binary_search

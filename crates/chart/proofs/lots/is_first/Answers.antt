@@ -4,8 +4,5 @@ use Rattle.chart.proofs.lots.is_first.Goals as goal
 pub returns-then-i-eq0 : goal.returns-then-i-eq0
 returns-then-i-eq0 c = search for_is_first
 
-pub returns-then-one_key : goal.returns-then-one_key
-returns-then-one_key c = search for_is_first
-
 pub returns : goal.returns
 returns c = search for_is_first

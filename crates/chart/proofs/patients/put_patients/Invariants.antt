@@ -4,8 +4,8 @@ use Rattle.chart_definitions.specs.Charts.{charted_in}
 use Rattle.chart.proofs.OrderNeeds.{Passing}
 use Rattle.chart.proofs.patients.put_patients.Given as goal
 
-abbrev pub invariant-loop-at : goal.invariant-loop-at
-invariant-loop-at l = (length l.room ≡ length l.initial.room) × Passing l.chart (record { at = l.initial.at; number = l.initial.number; pos = l.initial.pos }) l.initial.out l.initial.places l.at l.number l.pos l.out l.places
+abbrev pub invariant-loop-spot : goal.invariant-loop-spot
+invariant-loop-spot l = (length l.room ≡ length l.initial.room) × Passing l.chart l.initial.spot l.initial.out l.initial.places l.spot.at l.spot.number l.spot.pos l.out l.places
 
-abbrev pub decreases-loop-at : goal.decreases-loop-at
-decreases-loop-at l = length (charted_in (drop l.at l.chart))
+abbrev pub decreases-loop-spot : goal.decreases-loop-spot
+decreases-loop-spot l = length (charted_in (drop l.spot.at l.chart))

@@ -1,8 +1,8 @@
 use Rattle.chart_records.proofs.GivenNeeds.{for_immunization_end}
 use Rattle.chart_records.proofs.given.immunization_end.Goals as goal
 
-pub returns-then-form_of-eq-WRONG : goal.returns-then-form_of-eq-WRONG
-returns-then-form_of-eq-WRONG c = search for_immunization_end
+pub returns : goal.returns
+returns c = search for_immunization_end
 
 pub returns-in-0 : goal.returns-in-0
 returns-in-0 c = search for_immunization_end

@@ -1,8 +1,8 @@
 use Rattle.chart_records.proofs.LengthNeeds.{for_fields_length}
 use Rattle.chart_records.proofs.lengths.fields_length.Goals as goal
 
-pub loop-i-init : goal.loop-i-init
-loop-i-init c = search for_fields_length
+pub loop-width-init : goal.loop-width-init
+loop-width-init c = search for_fields_length
 
 pub returns-then-body-at-clause-value : goal.returns-then-body-at-clause-value
 returns-then-body-at-clause-value c = search for_fields_length
@@ -10,8 +10,8 @@ returns-then-body-at-clause-value c = search for_fields_length
 pub returns-then-body-at-clause-upper_bound : goal.returns-then-body-at-clause-upper_bound
 returns-then-body-at-clause-upper_bound c = search for_fields_length
 
-pub loop-i-preserved : goal.loop-i-preserved
-loop-i-preserved c = search for_fields_length
+pub loop-width-preserved : goal.loop-width-preserved
+loop-width-preserved c = search for_fields_length
 
 pub returns-clause-value : goal.returns-clause-value
 returns-clause-value c = search for_fields_length

@@ -1,8 +1,8 @@
 use Rattle.chart_records.proofs.MeasureNeeds.{for_answer}
 use Rattle.chart_records.proofs.measures.answer.Goals as goal
 
-pub returns-then-over : goal.returns-then-over
-returns-then-over c = search for_answer
+pub returns-in_default : goal.returns-in_default
+returns-in_default c = search for_answer
 
 pub returns-then-left-digits : goal.returns-then-left-digits
 returns-then-left-digits c = search for_answer

@@ -13,8 +13,8 @@ returns-then-end-eq0-clause-notes_after c = search for_measure
 pub note-requires : goal.note-requires
 note-requires c = search for_measure
 
-pub take_off-spare-requires-clause-at_value : goal.take_off-spare-requires-clause-at_value
-take_off-spare-requires-clause-at_value c = search for_measure
+pub take_off-left-requires-clause-at_value : goal.take_off-left-requires-clause-at_value
+take_off-left-requires-clause-at_value c = search for_measure
 
 pub loop-at-smaller : goal.loop-at-smaller
 loop-at-smaller c = search for_measure

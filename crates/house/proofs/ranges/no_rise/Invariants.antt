@@ -1,12 +1,9 @@
-use lib.ListN.{length, drop}
+use lib.ListN.{drop}
 use mathlib.Core.Path.{◌≡◌}
-use Prim.Native.Nat.{◌-◌, ◌≤◌}
+use Prim.Native.Nat.{◌-◌}
 use Rattle.house.specs.Inside.{no_rise}
 use Rattle.house.proofs.PadLaws.{steady_in}
 use Rattle.house.proofs.ranges.no_rise.Given as goal
 
 abbrev pub invariant-loop-i : goal.invariant-loop-i
-invariant-loop-i l = (1 ≤ l.i) × (no_rise l.text ≡ steady_in l.rises (drop (l.i - 1) l.text))
-
-abbrev pub decreases-loop-i : goal.decreases-loop-i
-decreases-loop-i l = length l.text - l.i
+invariant-loop-i l = no_rise l.text ≡ steady_in l.rises (drop (l.i - 1) l.text)

@@ -1,12 +1,7 @@
-use Prim.Native.Nat.{◌-◌}
 use mathlib.Core.Path.{◌≡◌}
-use mathlib.Core.List.{[]}
-use lib.ListN.{length, drop}
-use Rattle.house.specs.Text.{order_of, pad}
+use lib.ListN.{drop}
+use Rattle.house.specs.Inside.{blanks_order}
 use Rattle.house.proofs.texts.blanks_order.Given as goal
 
-abbrev pub invariant-loop-i : goal.invariant-loop-i
-invariant-loop-i l = order_of (drop l.at l.code) (drop l.at (pad (length l.code) [])) ≡ order_of (drop l.i l.code) (drop l.i (pad (length l.code) []))
-
-abbrev pub decreases-loop-i : goal.decreases-loop-i
-decreases-loop-i l = length l.code - l.i
+abbrev pub invariant-loop-b : goal.invariant-loop-b
+invariant-loop-b l = blanks_order l.text ≡ blanks_order (drop l.b-index l.text)

@@ -1,14 +1,6 @@
-use Rattle.house.proofs.OrderLaws.{for_same}
+use borrow.Author.Rules.{rules}
+use Rattle.house.proofs.OrderLaws.{same_told}
 use Rattle.house.proofs.texts.same.Goals as goal
 
-pub returns-then-a-b : goal.returns-then-a-b
-returns-then-a-b c = search for_same
-
-pub returns-then-a-i : goal.returns-then-a-i
-returns-then-a-i c = search for_same
-
-pub loop-i-preserved : goal.loop-i-preserved
-loop-i-preserved c = search for_same
-
 pub returns : goal.returns
-returns c = search for_same
+returns c = search (rules, same_told)

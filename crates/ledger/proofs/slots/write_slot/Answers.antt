@@ -1,8 +1,5 @@
 use Rattle.ledger.proofs.WriteLaws.{for_write_slot}
 use Rattle.ledger.proofs.slots.write_slot.Goals as goal
 
-pub loop-j-preserved : goal.loop-j-preserved
-loop-j-preserved c = search for_write_slot
-
 pub returns : goal.returns
 returns c = search for_write_slot

@@ -12,8 +12,8 @@ loop-r-preserved-in-Less c = (
   gaps_skip _ _ _ _ _ _ _ _ c.loop-r.invariant.1 c.loop-r-test.true _ c.loop-r.invariant.0 _ c.read_slot-s.ensures _ c.stands_to-o.ensures (search rules),
 )
 
-pub loop-r-preserved-in-Same : goal.loop-r-preserved-in-Same
-loop-r-preserved-in-Same c = (
+pub loop-r-preserved-in-Equal : goal.loop-r-preserved-in-Equal
+loop-r-preserved-in-Equal c = (
   c.loop-r.invariant.0,
   gaps_gone _ _ _ _ _ _ _ _ c.loop-r.invariant.1 c.loop-r-test.true _ c.loop-r.invariant.0 _ c.read_slot-s.ensures _ c.stands_to-o.ensures (search rules),
 )

@@ -7,6 +7,3 @@ use Rattle.lines.proofs.bytes.no_stray.Given as goal
 
 abbrev pub invariant-loop-i : goal.invariant-loop-i
 invariant-loop-i l = (1 ≤ l.i) × (l.i ≤ length l.file) × (no_stray l.file ≡ stray_in l.stray (drop (l.i - 1) l.file))
-
-abbrev pub decreases-loop-i : goal.decreases-loop-i
-decreases-loop-i l = length l.file - l.i

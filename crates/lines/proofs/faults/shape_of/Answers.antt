@@ -4,11 +4,11 @@ use Rattle.lines.proofs.faults.shape_of.Goals as goal
 pub loop-at-init : goal.loop-at-init
 loop-at-init c = search for_shape_of
 
-pub line_cause-cause-requires : goal.line_cause-cause-requires
-line_cause-cause-requires c = search for_shape_of
+pub line_cause-requires : goal.line_cause-requires
+line_cause-requires c = search for_shape_of
 
-pub returns-then-cause-ne0 : goal.returns-then-cause-ne0
-returns-then-cause-ne0 c = search for_shape_of
+pub returns-in-Some : goal.returns-in-Some
+returns-in-Some c = search for_shape_of
 
 pub loop-at-smaller : goal.loop-at-smaller
 loop-at-smaller c = search for_shape_of

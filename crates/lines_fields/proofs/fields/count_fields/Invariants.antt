@@ -1,11 +1,12 @@
-use Prim.Native.Nat.{◌-◌, ◌≤◌, ◌+◌}
+use Prim.Native.Nat.{◌≤◌, ◌+◌}
 use mathlib.Core.Path.{◌≡◌}
-use lib.ListN.{length, drop}
+use lib.ListN.{length}
+use Rattle.std.specs.Slice.Iter.{chunks_rest, chunks_size}
 use Rattle.lines_fields.specs.Lines.{fields_of}
 use Rattle.lines_fields.proofs.fields.count_fields.Given as goal
 
-abbrev pub invariant-loop-i : goal.invariant-loop-i
-invariant-loop-i l = (l.n ≤ l.i) × (l.i ≤ length l.text) × (length (fields_of l.text) ≡ l.n + length (fields_of (drop l.i l.text)))
-
-abbrev pub decreases-loop-i : goal.decreases-loop-i
-decreases-loop-i l = length l.text - l.i
+abbrev pub invariant-loop-few : goal.invariant-loop-few
+invariant-loop-few l =
+    (chunks_size l.few-iterator ≡ 255)
+    × (l.n + length (chunks_rest l.few-iterator) ≤ length l.text)
+    × (length (fields_of l.text) ≡ l.n + length (fields_of (chunks_rest l.few-iterator)))

@@ -1,11 +1,13 @@
-use Prim.Native.Nat.{◌-◌, ◌≤◌, ◌+◌}
+use Prim.Native.Nat.{◌≤◌, ◌+◌}
 use mathlib.Core.Path.{◌≡◌}
-use lib.ListN.{length, drop}
+use lib.ListN.{drop}
+use Rattle.std.specs.Slice.Iter.{chunks_exact_rest, chunks_exact_size}
 use Rattle.lines_fields.specs.Lines.{fields_len}
 use Rattle.lines_fields.proofs.fields.pass_over.Given as goal
 
-abbrev pub invariant-loop-at : goal.invariant-loop-at
-invariant-loop-at l = (1 ≤ l.left) × (fields_len l.f l.text ≡ l.at + fields_len l.left (drop l.at l.text))
-
-abbrev pub decreases-loop-at : goal.decreases-loop-at
-decreases-loop-at l = length l.text - l.at
+abbrev pub invariant-loop-run : goal.invariant-loop-run
+invariant-loop-run l =
+    (chunks_exact_size l.run-iterator ≡ 16)
+    × (chunks_exact_rest l.run-iterator ≡ drop l.p.at l.text)
+    × (1 ≤ l.p.left)
+    × (fields_len l.f l.text ≡ l.p.at + fields_len l.p.left (drop l.p.at l.text))

@@ -7,9 +7,6 @@ returns-then-f-eq0 c = search for_start_at
 pub returns-then-more-eq1 : goal.returns-then-more-eq1
 returns-then-more-eq1 c = search for_start_at
 
-pub loop-i-preserved-then-b-eq124 : goal.loop-i-preserved-then-b-eq124
-loop-i-preserved-then-b-eq124 c = search for_start_at
-
 pub returns-then-e-ne0 : goal.returns-then-e-ne0
 returns-then-e-ne0 c = search for_start_at
 

@@ -1,4 +1,4 @@
-use Prim.Native.Nat.{◌-◌, ◌<◌, ◌≤◌}
+use Prim.Native.Nat.{◌<◌, ◌≤◌}
 use lib.ListN.{length, drop}
 use Rattle.lines_fields.specs.Lines.{line_of}
 use Rattle.lines_fields.specs.Inside.{Marked}
@@ -6,6 +6,3 @@ use Rattle.lines_fields.proofs.marks.mark.Given as goal
 
 abbrev pub invariant-loop-k : goal.invariant-loop-k
 invariant-loop-k l = (l.n < l.k) × (l.end ≤ length l.file) × Marked l.at (line_of (drop l.at l.file)).text l.k l.marks
-
-abbrev pub decreases-loop-k : goal.decreases-loop-k
-decreases-loop-k l = 29 - l.k

@@ -6,6 +6,3 @@ use Rattle.lines_fields.proofs.marks.mark_pipes.Given as goal
 
 abbrev pub invariant-loop-i : goal.invariant-loop-i
 invariant-loop-i l = (l.at ≤ l.i) × (l.i ≤ l.end) × (l.end ≤ length l.file) × Marking l.at (line_of (drop l.at l.file)).text l.i l.n (take (l.end - l.i) (drop l.i l.file)) l.marks
-
-abbrev pub decreases-loop-i : goal.decreases-loop-i
-decreases-loop-i l = l.end - l.i

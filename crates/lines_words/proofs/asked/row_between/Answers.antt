@@ -13,5 +13,5 @@ returns-in-Less c = search for_row_between
 pub returns-else-f-e : goal.returns-else-f-e
 returns-else-f-e c = search for_row_between
 
-pub returns-in-More : goal.returns-in-More
-returns-in-More c = search for_row_between
+pub returns-in-Greater : goal.returns-in-Greater
+returns-in-Greater c = search for_row_between

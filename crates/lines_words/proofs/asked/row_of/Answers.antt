@@ -13,5 +13,5 @@ returns-in-Less c = search for_row_of
 pub returns-else-e-f-2 : goal.returns-else-e-f-2
 returns-else-e-f-2 c = search for_row_of
 
-pub returns-in-More : goal.returns-in-More
-returns-in-More c = search for_row_of
+pub returns-in-Greater : goal.returns-in-Greater
+returns-in-Greater c = search for_row_of

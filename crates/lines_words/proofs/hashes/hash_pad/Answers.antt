@@ -1,8 +1,8 @@
 use Rattle.lines_words.proofs.HashNeeds.{for_hash_pad}
 use Rattle.lines_words.proofs.hashes.hash_pad.Goals as goal
 
-pub loop-k-preserved : goal.loop-k-preserved
-loop-k-preserved c = search for_hash_pad
+pub loop-preserved : goal.loop-preserved
+loop-preserved c = search for_hash_pad
 
 pub returns-clause-value : goal.returns-clause-value
 returns-clause-value c = search for_hash_pad

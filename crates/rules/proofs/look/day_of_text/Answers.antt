@@ -1,8 +1,8 @@
 use Rattle.rules.proofs.LookNeeds.{for_day_of_text}
 use Rattle.rules.proofs.look.day_of_text.Goals as goal
 
-pub returns-in-Day : goal.returns-in-Day
-returns-in-Day c = search for_day_of_text
+pub returns-in-Some : goal.returns-in-Some
+returns-in-Some c = search for_day_of_text
 
-pub returns-in-NoDate : goal.returns-in-NoDate
-returns-in-NoDate c = search for_day_of_text
+pub returns-in-None : goal.returns-in-None
+returns-in-None c = search for_day_of_text

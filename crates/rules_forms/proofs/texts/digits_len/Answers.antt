@@ -4,8 +4,8 @@ use Rattle.rules_forms.proofs.texts.digits_len.Goals as goal
 pub loop-i-preserved : goal.loop-i-preserved
 loop-i-preserved c = search for_digits_on
 
-pub returns-else-is_digit-clause-value : goal.returns-else-is_digit-clause-value
-returns-else-is_digit-clause-value c = search for_digits_len
+pub returns-in-loop-i-clause-value : goal.returns-in-loop-i-clause-value
+returns-in-loop-i-clause-value c = search for_digits_len
 
 pub returns-clause-value : goal.returns-clause-value
 returns-clause-value c = search for_digits_len

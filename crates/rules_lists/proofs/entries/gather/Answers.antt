@@ -16,11 +16,11 @@ returns-then-file-to-clause-room_after c = search for_gather
 pub loop-at-init : goal.loop-at-init
 loop-at-init c = search for_gather
 
-pub loop-at-smaller-then-e : goal.loop-at-smaller-then-e
-loop-at-smaller-then-e c = search for_gather
+pub loop-at-smaller-in-Some : goal.loop-at-smaller-in-Some
+loop-at-smaller-in-Some c = search for_gather
 
-pub loop-at-preserved-then-e : goal.loop-at-preserved-then-e
-loop-at-preserved-then-e c = search for_gather
+pub loop-at-preserved-in-Some : goal.loop-at-preserved-in-Some
+loop-at-preserved-in-Some c = search for_gather
 
 pub loop-at-smaller : goal.loop-at-smaller
 loop-at-smaller c = search for_gather

@@ -1,11 +1,10 @@
 use Rattle.rules_walk.proofs.PartNeeds.{for_keep}
 use Rattle.rules_walk.proofs.parts.keep.Goals as goal
-
-pub loop-i-preserved-then-is_typed : goal.loop-i-preserved-then-is_typed
-loop-i-preserved-then-is_typed c = search for_keep
+use Rattle.rules_walk.proofs.parts.keep.Goals.{then-is_typed, else-is_typed}
 
 pub loop-i-preserved : goal.loop-i-preserved
-loop-i-preserved c = search for_keep
+loop-i-preserved c =
+    elim c.if-is_typed.branch [ then-is_typed w ↦ rw (w.places-is, w.n-is) (search for_keep) | else-is_typed w ↦ rw (w.places-is, w.n-is) (search for_keep) ]
 
 pub returns-clause-value : goal.returns-clause-value
 returns-clause-value c = search for_keep

@@ -1,11 +1,10 @@
 use Rattle.rules_walk.proofs.PartNeeds.{for_part_of}
 use Rattle.rules_walk.proofs.parts.part_of.Goals as goal
+use Rattle.rules_walk.proofs.parts.part_of.Goals.{then-is_typed, else-is_typed}
 
-pub loop-i-preserved-then-is_typed : goal.loop-i-preserved-then-is_typed
-loop-i-preserved-then-is_typed c = search for_part_of
-
-pub loop-i-preserved : goal.loop-i-preserved
-loop-i-preserved c = search for_part_of
+pub loop-p-preserved : goal.loop-p-preserved
+loop-p-preserved c =
+    elim c.if-is_typed.branch [ then-is_typed w ↦ rw (w.out-is, w.n-is) (search for_part_of) | else-is_typed w ↦ rw (w.out-is, w.n-is) (search for_part_of) ]
 
 pub returns-clause-value : goal.returns-clause-value
 returns-clause-value c = search for_part_of

@@ -1,44 +1,56 @@
+use Rattle.answers.specs.Answers.{numbers_of}
+use Rattle.tuulveski.specs.Interface.{numbers_in}
+use Rattle.tuulveski.specs.Inside.{Narrow}
 use Rattle.tuulveski.proofs.InterfaceNeeds.{for_numbers_of}
 use Rattle.tuulveski.proofs.interface.numbers_of.Goals as goal
 
 pub narrow-requires : goal.narrow-requires
 narrow-requires c = search for_numbers_of
 
-pub narrow-requires-in-Accepted : goal.narrow-requires-in-Accepted
-narrow-requires-in-Accepted c = search for_numbers_of
+pub narrow-requires-in-Ok : goal.narrow-requires-in-Ok
+narrow-requires-in-Ok c = search for_numbers_of
 
-pub narrow-requires-in-Accepted-2 : goal.narrow-requires-in-Accepted-2
-narrow-requires-in-Accepted-2 c = search for_numbers_of
+pub narrow-requires-in-Ok-2 : goal.narrow-requires-in-Ok-2
+narrow-requires-in-Ok-2 c = search for_numbers_of
 
-pub narrow-requires-in-Accepted-3 : goal.narrow-requires-in-Accepted-3
-narrow-requires-in-Accepted-3 c = search for_numbers_of
+pub narrow-requires-in-Ok-3 : goal.narrow-requires-in-Ok-3
+narrow-requires-in-Ok-3 c = search for_numbers_of
 
-pub narrow-requires-in-Shape : goal.narrow-requires-in-Shape
-narrow-requires-in-Shape c = search for_numbers_of
+pub narrow-requires-in-Err-Shape : goal.narrow-requires-in-Err-Shape
+unfolding Narrow
+narrow-requires-in-Err-Shape c = search for_numbers_of
 
-pub narrow-requires-in-Findings : goal.narrow-requires-in-Findings
-narrow-requires-in-Findings c = search for_numbers_of
+pub narrow-requires-in-Err-Findings : goal.narrow-requires-in-Err-Findings
+unfolding Narrow
+narrow-requires-in-Err-Findings c = search for_numbers_of
 
-pub returns-in-Accepted : goal.returns-in-Accepted
-returns-in-Accepted c = search for_numbers_of
+pub returns-in-Ok : goal.returns-in-Ok
+returns-in-Ok c = search for_numbers_of
 
-pub returns-in-Date : goal.returns-in-Date
-returns-in-Date c = search for_numbers_of
+pub returns-in-Err-Date : goal.returns-in-Err-Date
+unfolding numbers_in numbers_of
+returns-in-Err-Date c = search for_numbers_of
 
-pub returns-in-Long : goal.returns-in-Long
-returns-in-Long c = search for_numbers_of
+pub returns-in-Err-Long : goal.returns-in-Err-Long
+unfolding numbers_in numbers_of
+returns-in-Err-Long c = search for_numbers_of
 
-pub returns-in-Book : goal.returns-in-Book
-returns-in-Book c = search for_numbers_of
+pub returns-in-Err-Book : goal.returns-in-Err-Book
+unfolding numbers_in numbers_of
+returns-in-Err-Book c = search for_numbers_of
 
-pub returns-in-Ledger : goal.returns-in-Ledger
-returns-in-Ledger c = search for_numbers_of
+pub returns-in-Err-Ledger : goal.returns-in-Err-Ledger
+unfolding numbers_in numbers_of
+returns-in-Err-Ledger c = search for_numbers_of
 
-pub returns-in-Shape : goal.returns-in-Shape
-returns-in-Shape c = search for_numbers_of
+pub returns-in-Err-Shape : goal.returns-in-Err-Shape
+unfolding numbers_in numbers_of
+returns-in-Err-Shape c = search for_numbers_of
 
-pub returns-in-Findings : goal.returns-in-Findings
-returns-in-Findings c = search for_numbers_of
+pub returns-in-Err-Findings : goal.returns-in-Err-Findings
+unfolding numbers_in numbers_of
+returns-in-Err-Findings c = search for_numbers_of
 
-pub returns-in-Full : goal.returns-in-Full
-returns-in-Full c = search for_numbers_of
+pub returns-in-Err-Full : goal.returns-in-Err-Full
+unfolding numbers_in numbers_of
+returns-in-Err-Full c = search for_numbers_of

@@ -1,8 +1,0 @@
-use Rattle.lines.proofs.KindNeeds.{for_one_of}
-use Rattle.lines.proofs.kinds.one_of_three.Goals as goal
-
-pub returns-then-p-a : goal.returns-then-p-a
-returns-then-p-a c = search for_one_of
-
-pub returns : goal.returns
-returns c = search for_one_of
