@@ -11,7 +11,7 @@ use lib.ListN.{length, get_or, take, drop, take-append-drop, drop_of_length-le}
 use lib.Seq.{drop-drop, drop-cons, take_all}
 use Rattle.std.specs.List.{list_all}
 use Rattle.std.specs.Simd.{first_chunks}
-use Rattle.house.specs.Text.{Text, all, is_digit, digits}
+use Rattle.house.specs.Text.{Text, all, within, is_digit, digits}
 use Rattle.house.proofs.Members.{all_append}
 use Rattle.house.proofs.Suffix.{eight}
 
@@ -27,16 +27,22 @@ together true true false d e f g h = refl
 together true false c d e f g h = refl
 together false b c d e f g h = refl
 
--- eight_digits
-pub eight_digits : (s : Text) → length s ≡ 8
+-- eight_digits: of eight bytes anywhere in a text, and of a text that has no more
+pub eight_digits : (s : Text) (i : ℕ) → i + 8 ≤ length s
+    → (within 48 57 (get_or s i 0) && within 48 57 (get_or s (i + 1) 0) && within 48 57 (get_or s (i + 2) 0) && within 48 57 (get_or s (i + 3) 0) && within 48 57 (get_or s (i + 4) 0) && within 48 57 (get_or s (i + 5) 0) && within 48 57 (get_or s (i + 6) 0) && within 48 57 (get_or s (i + 7) 0))
+    ≡ digits (take 8 (drop i s))
+unfolding digits is_digit
+eight_digits s i h =
+    rw (eight s i h)
+    (together (within 48 57 (get_or s i 0)) (within 48 57 (get_or s (i + 1) 0)) (within 48 57 (get_or s (i + 2) 0)) (within 48 57 (get_or s (i + 3) 0)) (within 48 57 (get_or s (i + 4) 0)) (within 48 57 (get_or s (i + 5) 0)) (within 48 57 (get_or s (i + 6) 0)) (within 48 57 (get_or s (i + 7) 0)))
+
+pub eight_alone : (s : Text) → length s ≡ 8
     → (is_digit (get_or s 0 0) && is_digit (get_or s 1 0) && is_digit (get_or s 2 0) && is_digit (get_or s 3 0) && is_digit (get_or s 4 0) && is_digit (get_or s 5 0) && is_digit (get_or s 6 0) && is_digit (get_or s 7 0))
     ≡ digits s
-unfolding digits
-eight_digits s h =
-    together (is_digit (get_or s 0 0)) (is_digit (get_or s 1 0)) (is_digit (get_or s 2 0)) (is_digit (get_or s 3 0)) (is_digit (get_or s 4 0)) (is_digit (get_or s 5 0)) (is_digit (get_or s 6 0)) (is_digit (get_or s 7 0))
-    ∙ ap digits (sym (eight s 0 (omega arith)) ∙ take_all 8 s (omega arith))
+unfolding is_digit
+eight_alone s h = eight_digits s 0 (omega arith) ∙ ap digits (take_all 8 s (omega arith))
 
-pub ruleset for_eight_digits = (rules, eight_digits)
+pub ruleset for_eight_digits = (rules, eight_alone)
 
 -- all_digits
 split : (u : Text) (m : ℕ) → digits u ≡ (digits (take m u) && digits (drop m u))
