@@ -1,8 +1,9 @@
--- What the causes 3 to 6 come to: the laws that docs/TRACE names. The check finds what their functions need by itself.
+-- What the causes 3 to 6 come to: the laws that docs/TRACE names, by which `pipe_last`, `may_follow` and `kind_cause` are proved.
 -- Assumes nothing.
 use mathlib.Core.Path.{◌≡◌, refl}
 use mathlib.Core.Bool.{Bool, true, false, not}
 use Prim.Native.Nat.{ℕ, ◌-◌}
+use borrow.Author.Rules.{rules}
 use borrow.Author.Tests.{eq-eqb, ne_eqb}
 use lib.Dec.{eqb}
 use lib.ListN.{length, get_or}
@@ -26,6 +27,8 @@ module _ (k : ℕ) (v : k ≡ IV → ⊥) (h : k ≡ IH → ⊥) (p : k ≡ IP �
   unfolding follows
   follow_none q = simp (ne_eqb _ _ v, ne_eqb _ _ h, ne_eqb _ _ p, ne_eqb _ _ i, ne_eqb _ _ e, ne_eqb _ _ n, ne_eqb _ _ a, ne_eqb _ _ f)
 
+pub ruleset for_may_follow = (rules, follow_none)
+
 -- kind_cause
 module _ (p k n : ℕ) where
   pub kind_unknown : k ≡ 0 → Some UnknownType ≡ kind_cause p k n
@@ -45,3 +48,5 @@ module _ (p k n : ℕ) where
       pub kind_right : not f ≡ false → None ≡ kind_cause p k n
       unfolding kind_cause
       kind_right t = simp (ne_eqb _ _ z, ← g, eq-eqb _ _ e, ← h, t)
+
+pub ruleset for_kind_cause = (rules, kind_unknown, kind_count, kind_order, kind_right)

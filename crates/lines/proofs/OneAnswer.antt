@@ -5,7 +5,8 @@ use mathlib.Core.Bool.{Bool}
 use Prim.Native.Nat.{ℕ}
 use Rattle.house.specs.Text.{Text}
 use Rattle.lines.specs.Records.{record_of}
-use Rattle.lines.specs.Shape.{Shape, shape_of, follows}
+use Rattle.lines.specs.declared.Cause.{Cause}
+use Rattle.lines.specs.Shape.{Shape, shape_of, follows, number_of}
 
 one : {A : Type 0} {x r q : A} → r ≡ x → q ≡ x → r ≡ q
 one e f = e ∙ sym f
@@ -18,3 +19,6 @@ kind_of_lem t r q = one
 
 may_follow : (p k : ℕ) (r q : Bool) → r ≡ follows p k → q ≡ follows p k → r ≡ q
 may_follow p k r q = one
+
+number : (c : Cause) (r q : ℕ) → r ≡ number_of c → q ≡ number_of c → r ≡ q
+number c r q = one

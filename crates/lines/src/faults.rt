@@ -9,7 +9,6 @@ use crate::{Cause, Fault};
 use lines_fields::{count_fields, line_at};
 
 // Whether a text ends in a pipe.
-#[tactic(auto, unfolding(crate::specs::Shape::pipe_last))]
 fn pipe_last(text: &[u8]) -> bool
     ensures { result ≡ pipe_last text.now }
 {
@@ -34,7 +33,7 @@ impl Cause {
 }
 
 // The lowest cause at a record of kind k with n fields after one of kind p, if there is one.
-#[tactic(auto, unfolding(crate::specs::Inside::kind_cause))]
+#[tactic(auto, using(crate::proofs::CauseLaws::for_kind_cause))]
 fn kind_cause(p: u8, k: u8, n: usize) -> Option<Cause>
     ensures { result ≡ kind_cause p k n }
 {
