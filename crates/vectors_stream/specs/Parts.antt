@@ -1,6 +1,6 @@
 -- The parts of a stream of vectors.
 -- Assumes nothing.
-use Rattle.std.specs.Prelude.{ℕ, ◌+◌, ◌-◌, ◌≤◌, ◌<◌, ◌≡◌, true, false, cond, ◌&&◌, length, take, drop, leb, List}
+use Rattle.std.specs.Prelude.{ℕ, ◌+◌, ◌-◌, ◌≤◌, ◌<◌, ◌≡◌, true, false, cond, ◌&&◌, length, take, drop, leb, List, Bool}
 use Rattle.house.specs.Numbers.{four_bytes}
 use Rattle.vectors_stream.specs.declared.Part.{Part}
 
@@ -22,3 +22,7 @@ pub record FirstIs (s part rest : List ℕ) : Type 0 where
   pub whole : (part_at s 0).whole ≡ true
   pub part_is : part ≡ take ((part_at s 0).end - (part_at s 0).start) (drop (part_at s 0).start s)
   pub rest_is : rest ≡ drop (part_at s 0).end s
+
+-- whether a stream starts with two parts
+unfoldable pub two_there : List ℕ → Bool
+two_there s = (part_at s 0).whole && (part_at (drop (part_at s 0).end s) 0).whole

@@ -3,7 +3,7 @@
 
 ghost use Rattle.std.specs.Prelude.{◌≡◌, ◌<◌, ℕ, List, IfSome, IfNone, false, length};
 ghost use Rattle.std.specs.Io.{ReadsAtMost};
-ghost use Rattle.vectors_stream.specs.Parts.{part_at, PartIs, FirstIs};
+ghost use Rattle.vectors_stream.specs.Parts.{part_at, PartIs, FirstIs, two_there};
 
 pub use house::number_at;
 use std::io;
@@ -65,9 +65,11 @@ pub fn first_part(s: &[u8]) -> Option<(&[u8], &[u8])>
     None
 }
 
-// The first two parts, and what stands behind them.
+// The first two parts, and what stands behind them; none where the stream ends before the second does.
+#[tactic(auto, unfolding(crate::specs::Parts::two_there))]
 pub fn two_parts(s: &[u8]) -> Option<(&[u8], &[u8], &[u8])>
     ensures parts { IfSome result (λ p. (rest : List ℕ) × FirstIs s.now p.0.now rest × FirstIs rest p.1.now p.2.now) }
+    ensures absent { IfNone result (two_there s.now ≡ false) }
     ensures shorter { IfSome result (λ p. length p.2.now < length s.now) }
 {
     let (first, rest) = first_part(s)?;
