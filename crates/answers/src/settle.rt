@@ -53,7 +53,8 @@ fn lend_few_deletes(file: &[u8], ledger: &mut [u8], live: usize, index: &mut [u3
     update_with_deletes(file, ledger, live, index, &mut deletes);
 }
 
-// The same, in a buffer of its own, for any index.
+// The same, in a buffer of its own, for any index. It has a frame of its own, so that the stack of judging has none of it.
+#[inline(never)]
 fn lend_delete_buffer(file: &[u8], ledger: &mut [u8], live: usize, index: &mut [u32])
     requires { length index.old ≤ places_most }
     ensures ledger_after { ledger.new ≡ updated_by ledger.old live file.now index.old }
