@@ -3,16 +3,16 @@
 use mathlib.Core.Path.{◌≡◌, refl, sym, ap, ◌∙◌}
 use mathlib.Core.Bool.{Bool, true, false}
 use mathlib.Core.List.{List, [], ◌∷◌}
-use Prim.Native.Nat.{ℕ, zero, suc, ◌+◌, ◌-◌, ◌/◌, ◌%◌, ◌≤◌, ◌<◌}
+use Prim.Native.Nat.{ℕ, ◌+◌, ◌-◌, ◌/◌, ◌%◌, ◌≤◌, ◌<◌}
 use native.Mathlib.Omega.{arith}
 use borrow.Author.Rules.{rules}
-use borrow.Rule.Slice.PartMut.{put_mid}
 use borrow.Author.Tests.{ltb-true, ltb-false}
 use lib.Dec.{ltb}
-use lib.ListN.{length, set, length-set}
+use lib.ListN.{length, drop, get_or, set, length-set}
 use Rattle.house.specs.Text.{Text}
+use Rattle.house.proofs.Suffix.{drop_here, drop_past}
 use Rattle.writing.specs.Writing.{over_from, decimal}
-use Rattle.writing.proofs.OverLaws.{over_from_start, over_from_one, over_from_join, over_from_last, length_over_from}
+use Rattle.writing.proofs.OverLaws.{over_from_one, over_from_head, over_from_none, over_from_join, over_from_last, length_over_from}
 use Rattle.writing.proofs.DecimalLaws.{decimal_small, decimal_step, long_small, long_step, long_some}
 use Rattle.chart_definitions.specs.Submissions.{piped}
 
@@ -23,18 +23,20 @@ byte_put out at b = sym (over_from_one at b out)
 pub ruleset for_put_byte = (rules, byte_put)
 
 -- put_text
-text_mid : (at : ℕ) (t out : List ℕ) → at + length t ≤ length out → put_mid at (length t) out t ≡ over_from at t out
-text_mid zero t out h = let k : length t ≤ length out = omega (arith, h) in sym (over_from_start t out k)
-text_mid (suc at) t [] h = absurd (omega (arith, h))
-text_mid (suc at) t (b ∷ out) h = ap (λ (l : List ℕ). b ∷ l) (text_mid at t out (omega (arith, h)))
+pub text_start : (out t : List ℕ) (at : ℕ) → over_from at t out ≡ over_from (at + 0) (drop 0 t) out
+text_start out t at = let e : at + 0 ≡ at = omega arith in sym (ap (λ (n : ℕ). over_from n t out) e)
 
-pub text_put : (at : ℕ) (t copy out : List ℕ) → copy ≡ t → at + length t ≤ length out
-    → put_mid at (at + length t - at) out copy ≡ over_from at t out
-text_put at t copy out e h =
-    let k : at + length t - at ≡ length t = omega arith in
-    rw (e, k) (text_mid at t out h)
+module _ (x out t : List ℕ) (at i : ℕ) (inv : x ≡ over_from (at + i) (drop i t) out) where
+  pub text_on : i < length t → x ≡ over_from (at + (i + 1)) (drop (i + 1) t) (set out (at + i) (get_or t i 0))
+  text_on h =
+      let e : at + i + 1 ≡ at + (i + 1) = omega arith in
+      inv ∙ ap (λ (l : List ℕ). over_from (at + i) l out) (drop_here t i h) ∙ over_from_head (at + i) (get_or t i 0) (drop (i + 1) t) out
+      ∙ ap (λ (n : ℕ). over_from n (drop (i + 1) t) (set out (at + i) (get_or t i 0))) e
 
-pub ruleset for_put_text = (rules, text_put)
+  pub text_end : length t ≤ i → out ≡ x
+  text_end h = sym (inv ∙ ap (λ (l : List ℕ). over_from (at + i) l out) (drop_past t i h) ∙ over_from_none (at + i) out)
+
+pub ruleset for_put_text = (rules, text_start, text_on, text_end)
 
 -- put_piped and put_piped_number
 module _ (a b c t : List ℕ) (at end : ℕ) (p : b ≡ over_from at t a) (e : end ≡ at + length t) where

@@ -13,15 +13,16 @@ pub(crate) fn put_byte(out: &mut [u8], at: usize, b: u8) -> usize
     at + 1
 }
 
-// A text.
+// A text. Not by `copy_from_slice`, of which the compiler makes a call of memmove: what C links with calls memset and memcpy and nothing else.
 pub(crate) fn put_text(out: &mut [u8], at: usize, text: &[u8]) -> usize
     requires { at + length text.now ≤ length out.old }
     ensures out_after { out.new ≡ over_from at text.now out.old }
     ensures value { result ≡ at + length text.now }
 {
-    let end = at + text.len();
-    out[at..end].copy_from_slice(text);
-    end
+    for i in 0..text.len() {
+        out[at + i] = text[i];
+    }
+    at + text.len()
 }
 
 // A text and a pipe.
