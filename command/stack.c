@@ -6,7 +6,7 @@
 #include <pthread.h>
 #include <string.h>
 
-/* The library takes up to 3.7 MB of stack, which `ulimit -s` may not leave to the first thread. */
+/* The library takes up to 3.5 MB of stack, which `ulimit -s` may not leave to the first thread. */
 enum { STACK_BYTES = 8 * 1024 * 1024 };
 
 bool run_on_own_stack(void *(*run)(void *with), void *with)

@@ -7,7 +7,7 @@
  *
  * Every input gets an answer: nothing that the caller says of file, book, ledger, chart or date is trusted.
  *
- * STACK. A check takes up to 3.7 MB of the caller's stack, on a file of at most 16,384 bytes 1.2 MB; writing up to 2.4 MB. Give a thread
+ * STACK. A check takes up to 3.5 MB of the caller's stack, on a file of at most 16,384 bytes 1.2 MB; writing up to 2.4 MB. Give a thread
  * that calls either at least 4 MiB.
  *
  * TIME. On every input the time is near to proportional to the bytes lent, however the file is damaged. To check a file of 5,000,000
